@@ -71,16 +71,16 @@ module _ (tree : List Node) (assigned : List ℕ) (work : Work) (start : ℕ →
 
 -- a message that is neither early nor starts before its client issues it
 module _ (work : Work) (start : ℕ → ℕ) where
-  issued_after : (m : ℕ) (follows : Option ℕ) → work.follows m ≡ follows → work.release m ≤ start m
+  issued_after : (m : ℕ) (follows : Option ℕ) → work.follows m ≡ follows → work.floor m ≤ start m
       → ((f : ℕ) → work.follows m ≡ Some f → finish_of work start f + work.think m ≤ start m)
-      → issue_after (work.release m) (work.think m) (option_map (finish_of work start) follows) ≤ start m
+      → issue_after (work.floor m) (work.think m) (option_map (finish_of work start) follows) ≤ start m
   issued_after m None is released after = released
   issued_after m (Some f) is released after = omega (arith, released, after f is)
 
   pub starts_issued : NoneOf (StartsEarly work start) → NoneOf (StartsUnissued work start) → StartsIssued work start
   starts_issued late issued m number =
       issued_after m (work.follows m) refl
-      (elim (cases_lt (start m) (work.release m)) [
+      (elim (cases_lt (start m) (work.floor m)) [
         | inl early ↦ absurd (late m (record { number = number; early = early }))
         | inr released ↦ released
       ])
@@ -90,12 +90,12 @@ module _ (work : Work) (start : ℕ → ℕ) where
       ])
 
   -- what is issued when it starts is neither
-  pub released_by : (m : ℕ) (follows : Option ℕ) → issue_after (work.release m) (work.think m) (option_map (finish_of work start) follows) ≤ start m
-      → work.release m ≤ start m
+  pub released_by : (m : ℕ) (follows : Option ℕ) → issue_after (work.floor m) (work.think m) (option_map (finish_of work start) follows) ≤ start m
+      → work.floor m ≤ start m
   released_by m None issued = issued
   released_by m (Some f) issued = omega (arith, issued)
 
-  followed_by : (m f : ℕ) (follows : Option ℕ) → follows ≡ Some f → issue_after (work.release m) (work.think m) (option_map (finish_of work start) follows) ≤ start m
+  followed_by : (m f : ℕ) (follows : Option ℕ) → follows ≡ Some f → issue_after (work.floor m) (work.think m) (option_map (finish_of work start) follows) ≤ start m
       → finish_of work start f + work.think m ≤ start m
   followed_by m f None is issued = absurd (cc is)
   followed_by m f (Some g) is issued =

@@ -78,7 +78,7 @@ pub record HasWrongFinish (work : Work) (start told : ℕ → ℕ) (n : ℕ) : T
 -- a message whose row tells a start below its release
 pub record StartsEarly (work : Work) (start : ℕ → ℕ) (n : ℕ) : Type 0 where
   pub number : IsNumber work n
-  pub early : start n < work.release n
+  pub early : start n < work.floor n
 
 -- a message that starts before its client issues it: sooner than its think time after the finish of
 -- the message that it follows

@@ -15,7 +15,7 @@ abbrev pub first_of : Work → ℕ → Work
 first_of work many = record {
   count = many;
   cost = work.cost;
-  release = work.release;
+  floor = work.floor;
   follows = work.follows;
   think = work.think;
 }

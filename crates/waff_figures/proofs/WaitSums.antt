@@ -133,8 +133,8 @@ none_of m (w ∷ ws) some none =
 
 pub own_client_is_no_wait : (before : ℕ → ℕ → Type 0) (work : Work) (start : ℕ → ℕ) → OwnClientIsNoWait before work start
 own_client_is_no_wait before work start waits i m are obeys number follows at_once =
-    let issued : issue_of work start m ≡ issue_after (work.release m) (work.think m) (Some (finish_of work start i))
-    = ap (λ f. issue_after (work.release m) (work.think m) (option_map (finish_of work start) f)) follows in
+    let issued : issue_of work start m ≡ issue_after (work.floor m) (work.think m) (Some (finish_of work start i))
+    = ap (λ f. issue_after (work.floor m) (work.think m) (option_map (finish_of work start) f)) follows in
     let all = one_adds_up before work start waits are obeys m number in
     none_of m waits (subst (All (λ wait. 0 < wait.ticks)) (sym are.waits_are) (some_upto work start are.links work.count))
     (omega (arith, all, issued, at_once))

@@ -22,7 +22,7 @@ pub fn read_trace(alloc: Global, layout: &Layout, bytes: &[u8]) -> Result<Trace,
     ensures exact { GivesTrace result (known.trace_of layout.now.spaces bytes.now) }
     ensures fits { IfOk result (λ trace. trace.sizes ≡ sizes_of layout.now.spaces) }
 {
-    waff_read::read_trace(alloc, layout, newest(), bytes)
+    waff_read::read_trace_up_to(alloc, layout, newest(), bytes)
 }
 
 /// The trace that the bytes spell, as `read_trace` reads it, but read by several threads where the

@@ -82,7 +82,7 @@ module _ (before : Relation) (work : Work) (forward : IsForward before work) (k 
       subst (λ t. k * suc d + done r ≤ done t) next (omega (arith, mul-suc k d, so_far, adds))
 
   -- from a tick on up to which m is held back, each tick is used until m has finished
-  used_until_finish : (m s : ℕ) → IsNumber work m → Contains chain m → work.release m ≤ s
+  used_until_finish : (m s : ℕ) → IsNumber work m → Contains chain m → work.floor m ≤ s
       → ((i : ℕ) → IsLinked before work i m → holds_until work start m i ≤ s)
       → (t : ℕ) → s ≤ t → t < finish_of work start m → IsUsed work start k t chain
   used_until_finish m s number there released held t late unfinished =
@@ -100,7 +100,7 @@ module _ (before : Relation) (work : Work) (forward : IsForward before work) (k 
       ]
 
   -- so at least k ticks of work are done in each tick up to its finish
-  until_finish : (m s : ℕ) → IsNumber work m → Contains chain m → s ≤ start m → work.release m ≤ s
+  until_finish : (m s : ℕ) → IsNumber work m → Contains chain m → s ≤ start m → work.floor m ≤ s
       → ((i : ℕ) → IsLinked before work i m → holds_until work start m i ≤ s)
       → k * (finish_of work start m - s) + done s ≤ done (finish_of work start m)
   until_finish m s number there early released held =
@@ -111,7 +111,7 @@ module _ (before : Relation) (work : Work) (forward : IsForward before work) (k 
 
   -- and in each tick up to the length but the gaps of the chain
   leads_done : (m : ℕ) (rest : List ℕ) (s : ℕ) → LeadsToEnd before work start m rest → ((x : ℕ) → Contains (m ∷ rest) x → Contains chain x)
-      → s ≤ start m → work.release m ≤ s → ((i : ℕ) → IsLinked before work i m → holds_until work start m i ≤ s)
+      → s ≤ start m → work.floor m ≤ s → ((i : ℕ) → IsLinked before work i m → holds_until work start m i ≤ s)
       → k * length_of work start + done s ≤ done (length_of work start) + k * (s + gaps_after work m rest)
   leads_done m [] s leads there early released held =
       let until = until_finish m s leads.one (there m (contains_first m [])) early released held in
@@ -141,7 +141,7 @@ list_plans_are_within_bound before work forward k start [] some plan none =
     omega (arith, mul-zero k, mul-le-mul_left k bound)
 list_plans_are_within_bound before work forward k start (m ∷ rest) some plan printed =
     let chain = m ∷ rest in
-    let r = work.release m in
+    let r = work.floor m in
     let number : IsNumber work m = leads_from_number before work forward start m rest printed.1 in
     let all = leads_done before work forward k start some plan chain m rest r printed.1 (λ x is. is) (released before work start plan.within.obeys m number) (omega arith) printed.0 in
     let part = mul-le-mul_left (k - 1) (run_below-le-cost work start (length_of work start) chain) in

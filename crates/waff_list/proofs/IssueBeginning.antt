@@ -55,8 +55,8 @@ none_or None = inl refl
 none_or (Some f) = inr (f, refl)
 
 -- where a message follows none, it is issued at its release
-pub issue_of_first : (work : Work) (start : ℕ → ℕ) (m : ℕ) → work.follows m ≡ None → issue_of work start m ≡ work.release m
-issue_of_first work start m none = ap (λ f. issue_after (work.release m) (work.think m) (option_map (finish_of work start) f)) none
+pub issue_of_first : (work : Work) (start : ℕ → ℕ) (m : ℕ) → work.follows m ≡ None → issue_of work start m ≡ work.floor m
+issue_of_first work start m none = ap (λ f. issue_after (work.floor m) (work.think m) (option_map (finish_of work start) f)) none
 
 module _ (work : Work) (followed : FollowsMessages work) (small : IsSmall work) (start : ℕ → ℕ) (never : (m : ℕ) → IsNumber work m → start m ≡ NEVER) where
   -- the issues of the messages that follow none are all that are known
@@ -64,7 +64,7 @@ module _ (work : Work) (followed : FollowsMessages work) (small : IsSmall work) 
   joining_first issues h = record {
     each = each_same (λ m. IsNumber work m × (work.follows m ≡ None)) (map (λ (r : ℕ × ℕ). r.1) issues) (first_each work issues h)
         (λ m. IsNumber work m × (issue_of work start m < NEVER))
-        (λ m is. (is.0, omega (arith, issue_of_first work start m is.1, small.release m is.0)))
+        (λ m is. (is.0, omega (arith, issue_of_first work start m is.1, small.floor m is.0)))
         (λ m is. elim (none_or (work.follows m)) [
           | inl none ↦ (is.0, none)
           | inr some ↦ absurd (omega (arith, is.1, followed_by work start m (issue_of work start m) some.0 (omega arith) some.1, never some.0 (followed some.0 m some.1)))

@@ -50,9 +50,9 @@ cases_by finish release think None = inl refl
 cases_by finish release think (Some f) = elim (cases_lt release (finish f + think)) [ inl less ↦ inr (f, refl, omega arith) | inr more ↦ inl (omega arith) ]
 
 -- a message is issued at its release, or its think time after what it follows
-pub issue_cases : (work : Work) (start : ℕ → ℕ) (m : ℕ) → (issue_of work start m ≡ work.release m)
+pub issue_cases : (work : Work) (start : ℕ → ℕ) (m : ℕ) → (issue_of work start m ≡ work.floor m)
     ⊎ ((f : ℕ) × (work.follows m ≡ Some f) × (issue_of work start m ≡ finish_of work start f + work.think m))
-issue_cases work start m = cases_by (finish_of work start) (work.release m) (work.think m) (work.follows m)
+issue_cases work start m = cases_by (finish_of work start) (work.floor m) (work.think m) (work.follows m)
 
 module _ (work : Work) (followed : FollowsMessages work) (small : IsSmall work) (thinks : (m : ℕ) → IsNumber work m → work.think m ≤ MAX_THINK)
     (old starts : List ℕ) (now next : ℕ)
@@ -87,7 +87,7 @@ module _ (work : Work) (followed : FollowsMessages work) (small : IsSmall work) 
   event = elim tick.one [
     | inl there ↦ let runs = All-contains (Runs work (start_of starts) now) finishes (next, there.0) running.only there.1 in inl (there.0, runs.0, runs.1, runs.3)
     | inr (m, number, is) ↦ elim (issue_cases work (start_of starts) m) [
-      | inl release ↦ inr (m, number, is, inl (omega (arith, is, release, small.release m number)))
+      | inl release ↦ inr (m, number, is, inl (omega (arith, is, release, small.floor m number)))
       | inr (f, follows, sum) ↦
           let f_number = followed f m follows in
           elim (cases_lt now (finish_of work (start_of starts) f)) [

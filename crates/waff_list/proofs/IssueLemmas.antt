@@ -17,11 +17,11 @@ by finish release think t f (Some g) issued is = omega (arith, issued, ap finish
 pub issue_same : (work : Work) (start other : ℕ → ℕ) (m : ℕ) → ((f : ℕ) → work.follows m ≡ Some f → start f ≡ other f)
     → issue_of work start m ≡ issue_of work other m
 issue_same work start other m same =
-    same_by (finish_of work start) (finish_of work other) (work.release m) (work.think m) (work.follows m) (λ f is. ap (λ s. s + work.cost f) (same f is))
+    same_by (finish_of work start) (finish_of work other) (work.floor m) (work.think m) (work.follows m) (λ f is. ap (λ s. s + work.cost f) (same f is))
 
 -- when m is issued, what it follows has finished
 pub followed_by : (work : Work) (start : ℕ → ℕ) (m t f : ℕ) → issue_of work start m ≤ t → work.follows m ≡ Some f → finish_of work start f + work.think m ≤ t
-followed_by work start m t f issued is = by (finish_of work start) (work.release m) (work.think m) t f (work.follows m) issued is
+followed_by work start m t f issued is = by (finish_of work start) (work.floor m) (work.think m) t f (work.follows m) issued is
 
 le_by : (finish : ℕ → ℕ) (release think t : ℕ) (follows : Option ℕ) → release ≤ t → ((f : ℕ) → follows ≡ Some f → finish f + think ≤ t)
     → issue_after release think (option_map finish follows) ≤ t
@@ -29,6 +29,6 @@ le_by finish release think t None released after = released
 le_by finish release think t (Some f) released after = omega (arith, released, after f refl)
 
 -- a message is issued by a tick that is no earlier than its release, nor than its think time after what it follows has finished
-pub issue_le : (work : Work) (start : ℕ → ℕ) (m t : ℕ) → work.release m ≤ t → ((f : ℕ) → work.follows m ≡ Some f → finish_of work start f + work.think m ≤ t)
+pub issue_le : (work : Work) (start : ℕ → ℕ) (m t : ℕ) → work.floor m ≤ t → ((f : ℕ) → work.follows m ≡ Some f → finish_of work start f + work.think m ≤ t)
     → issue_of work start m ≤ t
-issue_le work start m t released after = le_by (finish_of work start) (work.release m) (work.think m) t (work.follows m) released after
+issue_le work start m t released after = le_by (finish_of work start) (work.floor m) (work.think m) t (work.follows m) released after

@@ -10,7 +10,7 @@ use Rattle.waff_plan.specs.Unique.{AreSame}
 use Rattle.waff_plan.specs.Work.{Work, IsNumber, issue_of}
 use Rattle.waff_plan.proofs.Chains.{printed_is_chain}
 use Rattle.waff_plan.proofs.IssueOrder.{IsServedBefore_forward, one_is_issued_first, issue_is_arrival}
-use Rattle.waff_plan.proofs.NoClients.{issue_is_release}
+use Rattle.waff_plan.proofs.NoClients.{issue_is_floor}
 use Rattle.waff_plan.proofs.Ratios.{bound_is_within_twice}
 use Rattle.waff_list.specs.ByIssue.{ByIssueIsByArrival, IsTakenByIssue, IsListPlanByIssue, AreClientTails, IsFollowedByNone, ClientTailsAreOne, ListPlanByIssueIsOne, PlanByIssueIsOne, ListPlansByIssueAreBounded}
 use Rattle.waff_list.specs.ListRule.{IsListPlan, IsReady, IsTakenFirst, arrival}
@@ -191,7 +191,7 @@ by_issue_is_by_arrival tree assigned work same none rises k start = (
       level,
       elim (cases_lt (issue_of work start i) (issue_of work start j)) [
         | inl sooner ↦ inl sooner
-        | inr late ↦ inr (omega (arith, late, issue_is_release work none start i, issue_is_release work none start j, rises i j lower), lower)
+        | inr late ↦ inr (omega (arith, late, issue_is_floor work none start i, issue_is_floor work none start j, rises i j lower), lower)
       ],
     )
 
@@ -200,7 +200,7 @@ by_issue_is_by_arrival tree assigned work same none rises k start = (
     lower_of i j (inl sooner) = elim (cases_order i j) [
       | inl one ↦ absurd (omega (arith, sooner, ap (issue_of work start) one))
       | inr (inl lower) ↦ lower
-      | inr (inr higher) ↦ absurd (omega (arith, sooner, issue_is_release work none start i, issue_is_release work none start j, rises j i higher))
+      | inr (inr higher) ↦ absurd (omega (arith, sooner, issue_is_floor work none start i, issue_is_floor work none start j, rises j i higher))
     ]
 
     arrival_of_issue : (i j : ℕ) → by_issue i j → by_arrival i j

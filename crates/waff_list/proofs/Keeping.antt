@@ -125,7 +125,7 @@ module _ (p : Plannable) (order : IsServiceOrder p.work p.order) where
     all_issued (suc bound) m less number = elim (issues m number) [
       | inl issued ↦ issued
       | inr never ↦
-          let soon = issue_le p.work start m (now + MAX_RELEASE + MAX_THINK) (omega (arith, small.release m number))
+          let soon = issue_le p.work start m (now + MAX_RELEASE + MAX_THINK) (omega (arith, small.floor m number))
           (λ f is.
           let earlier = follows f m is in
           let f_number : IsNumber p.work f = record { from = earlier.from; to = omega (arith, earlier.earlier, earlier.to) } in

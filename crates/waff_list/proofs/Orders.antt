@@ -10,7 +10,7 @@ use Rattle.waff_order.specs.Needs.{AreLists, IsNeed, needs_of}
 use Rattle.waff_order.proofs.NeedLemmas.{need_within, path_one}
 use Rattle.waff_plan.specs.Obeys.{FollowsNone}
 use Rattle.waff_plan.specs.Work.{Work, IsAmongFirst, IsNumber, finish_of, issue_of}
-use Rattle.waff_plan.proofs.NoClients.{issue_is_release}
+use Rattle.waff_plan.proofs.NoClients.{issue_is_floor}
 use Rattle.waff_plan.proofs.Places.{earlier_place, place_of, place_to}
 use Rattle.waff_list.specs.Issuing.{served_at}
 use Rattle.waff_list.specs.Orders.{AgreeBy, AreNeedsIn, IsServiceOrder, Order, TakesFirst, by_issue, by_number}
@@ -43,7 +43,7 @@ numbers_serve given work lists same none small = record {
   earlier = λ start i m path. (path_numbers given lists path.0 i m path.1).1;
   known = λ start i m path short.
       let is = path_numbers given lists path.0 i m path.1 in
-      omega (arith, issue_is_release work none start i, small.release i (record { from = is.0; to = omega (arith, is.1, is.2, same) }));
+      omega (arith, issue_is_floor work none start i, small.floor i (record { from = is.0; to = omega (arith, is.1, is.2, same) }));
   kept = λ start later now agree i m issued pair. pair;
   keyed = λ start later m agree. refl;
   serves = λ start now issued needs served knows. record {
@@ -53,7 +53,7 @@ numbers_serve given work lists same none small = record {
   due = λ start now issued needs short served knows i m need.
       let path = path_one (IsNeed given) i m (subst (λ ys. IsNeed ys i m) knows need) in
       let is = path_numbers given lists path.0 i m path.1 in
-      omega (arith, issue_is_release work none start m, small.release m (record { from = omega (arith, is.0, is.1); to = omega (arith, is.2, same) }));
+      omega (arith, issue_is_floor work none start m, small.floor m (record { from = omega (arith, is.0, is.1); to = omega (arith, is.2, same) }));
 }
 
 pub issues_serve : (tree : List Node) (spans : List Span) (assigned : List ℕ) (work : Work) → IsServiceOrder work (by_issue tree spans assigned work)

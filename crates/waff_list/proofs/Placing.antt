@@ -155,7 +155,7 @@ module _ (p : Plannable) (order : IsServiceOrder p.work p.order) (follows : Foll
     follower_soon : (n : ℕ) → IsNumber p.work n → p.work.follows n ≡ Some m → Known later n
     follower_soon n n_number is =
         let after = followed_by p.work later n (issue_of p.work later n) m (omega arith) is in
-        let soonest = issue_le p.work later n (now + 2 ^ 33) (omega (arith, small.release n n_number))
+        let soonest = issue_le p.work later n (now + 2 ^ 33) (omega (arith, small.floor n n_number))
         (λ f again. let same : f ≡ m = same_Some f m (sym again ∙ is) in omega (arith, thinks n n_number, small.cost m number, moved.here, ap later same, ap p.work.cost same)) in
         (n_number, omega (arith, after, moved.here, cost), omega (arith, soonest, short))
 

@@ -20,7 +20,7 @@ pub small_timings : (timings : List Timing) → All IsTiming timings → IsSmall
 small_timings timings small = record {
   some_cost = λ m number. let t = small (m - 1) no_timing (omega (arith, number.from, number.to)) in t.some_cost;
   cost = λ m number. let t = small (m - 1) no_timing (omega (arith, number.from, number.to)) in t.cost;
-  release = λ m number. let t = small (m - 1) no_timing (omega (arith, number.from, number.to)) in t.release;
+  floor = λ m number. let t = small (m - 1) no_timing (omega (arith, number.from, number.to)) in t.floor;
 }
 
 -- the messages of a trace are small

@@ -82,6 +82,6 @@ ListPlansByIssueAreBounded tree assigned work =
 abbrev pub ByIssueIsByArrival : List Node → List ℕ → Work → Type 0
 ByIssueIsByArrival tree assigned work =
     length assigned ≡ work.count → FollowsNone work
-    → ((i j : ℕ) → i < j → work.release i ≤ work.release j)
+    → ((i j : ℕ) → i < j → work.floor i ≤ work.floor j)
     → (k : ℕ) (start : ℕ → ℕ) → IsListPlanByIssue tree assigned arrival work k start
     ↔ IsListPlan (IsOrdered tree assigned) (IsTakenFirst arrival) work k start

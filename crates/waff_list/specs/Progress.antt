@@ -49,4 +49,4 @@ pub record IsProgressOf (before first : Relation) (work : Work) (workers : ℕ)
 pub record IsSmall (work : Work) : Type 0 where
   pub some_cost : (m : ℕ) → IsNumber work m → 1 ≤ work.cost m
   pub cost : (m : ℕ) → IsNumber work m → work.cost m ≤ MAX_COST
-  pub release : (m : ℕ) → IsNumber work m → work.release m ≤ MAX_RELEASE
+  pub floor : (m : ℕ) → IsNumber work m → work.floor m ≤ MAX_RELEASE

@@ -124,12 +124,12 @@ impl Task {
         ensures { result ≡ issue_of (work_of self.now.timings.items) (start_of starts.now) m }
     {
         let timing = self.timings[m as usize - 1];
-        let release = u64::from(timing.release);
+        let floor = u64::from(timing.floor);
         match timing.follows {
-            0 => release,
+            0 => floor,
             before => {
                 let finish = starts[before as usize - 1] + self.cost(before);
-                release.max(finish + u64::from(timing.think))
+                floor.max(finish + u64::from(timing.think))
             }
         }
     }

@@ -10,6 +10,7 @@ ghost use Rattle.waff_model.specs.Layout.{IsLayout, IsCell, SameSpaces, name_at,
 ghost use Rattle.waff_model.specs.Layout.{space_named, owner_of, HasFewCells};
 ghost use Rattle.waff_model.specs.LayoutOf.{owners_of, map_of, space_of, hierarchy_of};
 ghost use Rattle.waff_model.specs.LayoutRefusal.{layout_refusal};
+ghost use Rattle.waff_model.specs.declared.format.Format.TheVariants.{F1};
 
 use crate::cell::Cell;
 use crate::format::Format;
@@ -65,9 +66,26 @@ impl Drop for Layout {
 }
 
 impl Layout {
-    /// The layout of these spaces and maps over the tree. Spaces are numbered from 0 in the order
-    /// given.
+    /// The layout of these spaces and maps over the tree, of spaces as large as format 1 allows. Spaces
+    /// are numbered from 0 in the order given.
     pub fn new(
+        alloc: Global,
+        kind: Kind,
+        tree: Tree,
+        spaces: &[SpaceSpec],
+        maps: &[MapSpec],
+    ) -> Result<Layout, LayoutError>
+        ensures kept { IfOk result (λ layout.
+            layout ≡ hierarchy_of F1 kind tree spaces.now maps.now) }
+        ensures accepted { OnOk result (layout_refusal F1 tree spaces.now maps.now ≡ None) }
+        ensures refused { IfErr result (λ e.
+            e ≡ unwrap_or (layout_refusal F1 tree spaces.now maps.now) LayoutError.Memory) }
+    {
+        Layout::with_format(alloc, Format::F1, kind, tree, spaces, maps)
+    }
+
+    /// The layout of these spaces and maps over the tree, of spaces as large as the format allows.
+    pub fn with_format(
         alloc: Global,
         format: Format,
         kind: Kind,

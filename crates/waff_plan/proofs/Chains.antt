@@ -62,7 +62,7 @@ moved_to-le start m t n sooner = elim (cases_eq n m) [
 
 -- a plan that obeys still does when one message starts earlier, where nothing keeps it from that
 moved_obeys : (before : Relation) (work : Work) (start : ℕ → ℕ) → IsForward before work → Obeys before work start
-    → (m : ℕ) (t : ℕ) → t ≤ start m → work.release m ≤ t → ((i : ℕ) → IsLinked before work i m → holds_until work start m i ≤ t)
+    → (m : ℕ) (t : ℕ) → t ≤ start m → work.floor m ≤ t → ((i : ℕ) → IsLinked before work i m → holds_until work start m i ≤ t)
     → Obeys before work (moved_to start m t)
 moved_obeys before work start forward obeys m t sooner free after =
     let moved = moved_to start m t in
@@ -85,7 +85,7 @@ moved_obeys before work start forward obeys m t sooner free after =
 
 -- in the least plan no message starts later than it has to
 pub least_is_earliest : (before : Relation) (work : Work) (start : ℕ → ℕ) → IsForward before work → IsLeast before work start
-    → (m : ℕ) → IsNumber work m → (t : ℕ) → work.release m ≤ t → ((i : ℕ) → IsLinked before work i m → holds_until work start m i ≤ t) → start m ≤ t
+    → (m : ℕ) → IsNumber work m → (t : ℕ) → work.floor m ≤ t → ((i : ℕ) → IsLinked before work i m → holds_until work start m i ≤ t) → start m ≤ t
 least_is_earliest before work start forward least m number t free after =
     elim (cases_lt t (start m)) [
       | inl early ↦
@@ -124,5 +124,5 @@ printed_is_as_long before work forward start [] least none =
     omega (arith, length_of-le work start 0 (λ m h. absurd (omega (arith, none, h.from, h.to))))
 printed_is_as_long before work forward start (m ∷ rest) least h =
     let number = first_is_number before work m rest (links_from_leads before work forward start m rest h.1) in
-    let at_once = least_is_earliest before work start forward least m number (work.release m) (omega arith) h.0 in
+    let at_once = least_is_earliest before work start forward least m number (work.floor m) (omega arith) h.0 in
     omega (arith, released before work start least.obeys m number, at_once, leads_fill before work forward start least m rest h.1)

@@ -4,7 +4,7 @@ use Rattle.waff_assign.specs.Order.{Relation}
 use Rattle.waff_plan.specs.Work.{Work, IsNumber, finish_of, issue_after}
 use Rattle.waff_plan.specs.Obeys.{IsLinked, IsForward, Obeys, IsLeast}
 use Rattle.waff_plan.specs.AtOnce.{AllStartAtOnce}
-use Rattle.waff_plan.proofs.Holding.{release-le-issue, held-le}
+use Rattle.waff_plan.proofs.Holding.{floor-le-issue, held-le}
 use Rattle.waff_plan.proofs.Chains.{least_is_earliest}
 
 -- what follows a message that finishes no later is issued no later
@@ -25,7 +25,7 @@ module _ (before : Relation) (work : Work) (start : ℕ → ℕ) (forward : IsFo
         (all m number).greatest (other m)
         (omega (
           arith,
-          issue_sooner (finish_of work start) (finish_of work other) (work.release m) (work.think m) (work.follows m) (λ f follow. sooner f (inr follow)),
+          issue_sooner (finish_of work start) (finish_of work other) (work.floor m) (work.think m) (work.follows m) (λ f follow. sooner f (inr follow)),
           obeys.issued m number,
         ))
         (λ i pair. omega (arith, sooner i (inl pair), obeys.ordered i m pair))
@@ -44,6 +44,6 @@ module _ (before : Relation) (work : Work) (start : ℕ → ℕ) (forward : IsFo
     issued = least.obeys.issued m number;
     finished = λ i pair. least.obeys.ordered i m pair;
     greatest = λ tick issued finished.
-        least_is_earliest before work start forward least m number tick (omega (arith, release-le-issue before work start m, issued))
+        least_is_earliest before work start forward least m number tick (omega (arith, floor-le-issue before work start m, issued))
         (λ i linked. held-le before work start i m tick issued (finished i) linked);
   }

@@ -136,12 +136,12 @@ module _ (before : Relation) (work : Work) (start : ℕ → ℕ) (m : ℕ) where
   found_linked (Some f) follow latest found = found_follow f follow latest found
 
   -- and the link of m, where that is after its release
-  link_of_found : (latest : Option Latest) → IsFound (λ i. IsLinked before work i m) holds latest → IsLink before work start m (link_of latest (work.release m))
+  link_of_found : (latest : Option Latest) → IsFound (λ i. IsLinked before work i m) holds latest → IsLink before work start m (link_of latest (work.floor m))
   link_of_found None none = λ i linked. absurd (none i linked)
   link_of_found (Some l) found =
-      cond_both (ltb (work.release m) l.finish) (Some l.number) None (λ link. IsLink before work start m link)
-      (λ waits. (found.number, omega (arith, ltb-true (work.release m) l.finish waits, found.finish_is)))
-      (λ released i linked. omega (arith, ltb-false (work.release m) l.finish released, found.finish_is, found.number.latest i linked))
+      cond_both (ltb (work.floor m) l.finish) (Some l.number) None (λ link. IsLink before work start m link)
+      (λ waits. (found.number, omega (arith, ltb-true (work.floor m) l.finish waits, found.finish_is)))
+      (λ released i linked. omega (arith, ltb-false (work.floor m) l.finish released, found.finish_is, found.number.latest i linked))
 
   -- what m waits for, where the latest message before it is found
   pub is_wait : (since : Since) (latest : Option Latest) → IsFound (λ i. before i m) (finish_of work start) latest

@@ -39,25 +39,25 @@ issued_after finish release think (Some f) = omega arith
 -- what follows another is issued no sooner than a think time after that one has finished
 pub followed-le-issue : (work : Work) (start : ℕ → ℕ) (i m : ℕ) → work.follows m ≡ Some i → holds_until work start m i ≤ issue_of work start m
 followed-le-issue work start i m follows =
-    held (finish_of work start) (work.release m) (work.think m) i (issue_of work start m) (work.follows m) (omega arith) (inr follows)
+    held (finish_of work start) (work.floor m) (work.think m) i (issue_of work start m) (work.follows m) (omega arith) (inr follows)
 
 module _ (before : Relation) (work : Work) (start : ℕ → ℕ) where
   -- no message is issued before its release
-  pub release-le-issue : (m : ℕ) → work.release m ≤ issue_of work start m
-  release-le-issue m = issued_after (finish_of work start) (work.release m) (work.think m) (work.follows m)
+  pub floor-le-issue : (m : ℕ) → work.floor m ≤ issue_of work start m
+  floor-le-issue m = issued_after (finish_of work start) (work.floor m) (work.think m) (work.follows m)
 
   -- a message is issued by a tick up to which nothing holds it back
-  pub issue-le : (m t : ℕ) → work.release m ≤ t → ((i : ℕ) → IsLinked before work i m → holds_until work start m i ≤ t) → issue_of work start m ≤ t
+  pub issue-le : (m t : ℕ) → work.floor m ≤ t → ((i : ℕ) → IsLinked before work i m → holds_until work start m i ≤ t) → issue_of work start m ≤ t
   issue-le m t released after =
-      issued_by (finish_of work start) (work.release m) (work.think m) t (work.follows m) released (λ i follows. after i (inr follows))
+      issued_by (finish_of work start) (work.floor m) (work.think m) t (work.follows m) released (λ i follows. after i (inr follows))
 
   -- in an obeying plan no message starts before its release, nor while another holds it back
-  pub released : Obeys before work start → (m : ℕ) → IsNumber work m → work.release m ≤ start m
-  released obeys m number = omega (arith, release-le-issue m, obeys.issued m number)
+  pub released : Obeys before work start → (m : ℕ) → IsNumber work m → work.floor m ≤ start m
+  released obeys m number = omega (arith, floor-le-issue m, obeys.issued m number)
 
   pub held_until : Obeys before work start → (i m : ℕ) → IsNumber work m → IsLinked before work i m → holds_until work start m i ≤ start m
   held_until obeys i m number linked =
-      held (finish_of work start) (work.release m) (work.think m) i (start m) (work.follows m) (obeys.issued m number)
+      held (finish_of work start) (work.floor m) (work.think m) i (start m) (work.follows m) (obeys.issued m number)
       (elim linked [ inl before ↦ inl (obeys.ordered i m before) | inr follows ↦ inr follows ])
 
   -- a message has finished when it holds back another no longer
@@ -67,11 +67,11 @@ module _ (before : Relation) (work : Work) (start : ℕ → ℕ) where
   -- what a message that is issued by a tick has to wait for by then holds it back no longer
   pub held-le : (i m s : ℕ) → issue_of work start m ≤ s → (before i m → finish_of work start i ≤ s) → IsLinked before work i m → holds_until work start m i ≤ s
   held-le i m s issued after linked =
-      held (finish_of work start) (work.release m) (work.think m) i s (work.follows m) issued
+      held (finish_of work start) (work.floor m) (work.think m) i s (work.follows m) issued
       (elim linked [ inl pair ↦ inl (after pair) | inr follows ↦ inr follows ])
 
   -- a plan obeys where no message starts before its release, nor while another holds it back
-  pub obeys_held : ((m : ℕ) → IsNumber work m → work.release m ≤ start m)
+  pub obeys_held : ((m : ℕ) → IsNumber work m → work.floor m ≤ start m)
       → ((i m : ℕ) → IsLinked before work i m → IsNumber work m)
       → ((i m : ℕ) → IsLinked before work i m → holds_until work start m i ≤ start m) → Obeys before work start
   obeys_held released number after = record {
@@ -95,5 +95,5 @@ issue_again finish other release think (Some f) same = ap (λ x. issue_after rel
 pub same_issue : (work : Work) (start other : ℕ → ℕ) (m : ℕ) → ((f : ℕ) → work.follows m ≡ Some f → start f ≡ other f)
     → issue_of work start m ≡ issue_of work other m
 same_issue work start other m same =
-    issue_again (finish_of work start) (finish_of work other) (work.release m) (work.think m) (work.follows m)
+    issue_again (finish_of work start) (finish_of work other) (work.floor m) (work.think m) (work.follows m)
     (λ f follow. ap (λ s. s + work.cost f) (same f follow))

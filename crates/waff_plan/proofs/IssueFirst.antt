@@ -14,9 +14,9 @@ use Rattle.waff_model.specs.Tree.{Node}
 -- those of the first n messages that follow none
 pub record AreFirstUpTo (work : Work) (n : ℕ) (first : List Issue) : Type 0 where
   pub number : (x : Issue) → Contains first x → IsAmongFirst n x.1
-  pub issue : (x : Issue) → Contains first x → x.0 ≡ work.release x.1
+  pub issue : (x : Issue) → Contains first x → x.0 ≡ work.floor x.1
   pub alone : (x : Issue) → Contains first x → work.follows x.1 ≡ None
-  pub all : (m : ℕ) → IsAmongFirst n m → work.follows m ≡ None → Contains first (work.release m, m)
+  pub all : (m : ℕ) → IsAmongFirst n m → work.follows m ≡ None → Contains first (work.floor m, m)
   pub once : AreOnce first
 
 pub first_none : (work : Work) → AreFirstUpTo work 0 []
@@ -57,7 +57,7 @@ module _ (work : Work) (m : ℕ) (from : 1 ≤ m) (old : List Issue) (are : AreF
   }
 
   -- one more message, which follows none
-  pub first_put : (new : List Issue) (release : ℕ) → release ≡ work.release m → work.follows m ≡ None → IsPermutation ((release, m) ∷ old) new
+  pub first_put : (new : List Issue) (release : ℕ) → release ≡ work.floor m → work.follows m ≡ None → IsPermutation ((release, m) ∷ old) new
       → AreFirstUpTo work m new
   first_put new release is none put =
       let x : Issue = (release, m) in
@@ -67,7 +67,7 @@ module _ (work : Work) (m : ℕ) (from : 1 ≤ m) (old : List Issue) (are : AreF
           | inr old_y ↦ let number = are.number y old_y in record { from = number.from; to = omega (arith, number.to) }
         ];
         issue = λ y there. elim (put_cases x old new put y there) [
-          | inl here ↦ subst (λ (z : Issue). z.0 ≡ work.release z.1) here is
+          | inl here ↦ subst (λ (z : Issue). z.0 ≡ work.floor z.1) here is
           | inr old_y ↦ are.issue y old_y
         ];
         alone = λ y there. elim (put_cases x old new put y there) [
@@ -76,10 +76,10 @@ module _ (work : Work) (m : ℕ) (from : 1 ≤ m) (old : List Issue) (are : AreF
         ];
         all = λ n among alone. elim (cases_eq n m) [
           | inl here ↦
-              let same : x ≡ (work.release n, n) = ap (λ r. (r, m)) is ∙ ap (λ k. (work.release k, k)) (sym here) in
+              let same : x ≡ (work.floor n, n) = ap (λ r. (r, m)) is ∙ ap (λ k. (work.floor k, k)) (sym here) in
               subst (Contains new) same (put_new x old new put)
           | inr other ↦
-              put_old x old new put (work.release n, n)
+              put_old x old new put (work.floor n, n)
               (are.all n (record { from = among.from; to = omega (arith, among.to, other) }) alone)
         ];
         once = once_put old new x put are.once (λ y there same. omega (arith, (are.number y there).to, same, from));
@@ -93,13 +93,13 @@ first_moved work n old new moved are =
       number = λ x there. are.number x (Contains-permutation new old x back there);
       issue = λ x there. are.issue x (Contains-permutation new old x back there);
       alone = λ x there. are.alone x (Contains-permutation new old x back there);
-      all = λ m among none. Contains-permutation old new (work.release m, m) moved (are.all m among none);
+      all = λ m among none. Contains-permutation old new (work.floor m, m) moved (are.all m among none);
       once = λ m. omega (arith, are.once m, sum_by-IsPermutation (λ (x : Issue). cond (x.1 == m) 1 0) old new moved);
     }
 
 -- what follows none is issued at its release
-issue_at_release : (work : Work) (start : ℕ → ℕ) (m : ℕ) → work.follows m ≡ None → issue_of work start m ≡ work.release m
-issue_at_release work start m none = ap (λ follows. issue_after (work.release m) (work.think m) (option_map (finish_of work start) follows)) none
+issue_at_release : (work : Work) (start : ℕ → ℕ) (m : ℕ) → work.follows m ≡ None → issue_of work start m ≡ work.floor m
+issue_at_release work start m none = ap (λ follows. issue_after (work.floor m) (work.think m) (option_map (finish_of work start) follows)) none
 
 -- all messages that follow none
 pub first_all : (work : Work) (n : ℕ) (first : List Issue) → n ≡ work.count → AreFirstUpTo work n first → AreFirst work (issue_of work) first

@@ -27,13 +27,13 @@ late order = MAX_RELEASE + MAX_COST * length order + MAX_THINK * length order
 -- work within the limits of messages
 pub record IsSmall (work : Work) : Type 0 where
   pub cost : (m : ℕ) → IsNumber work m → work.cost m ≤ MAX_COST
-  pub release : (m : ℕ) → IsNumber work m → work.release m ≤ MAX_RELEASE
+  pub floor : (m : ℕ) → IsNumber work m → work.floor m ≤ MAX_RELEASE
   pub think : (m : ℕ) → IsNumber work m → work.think m ≤ MAX_THINK
 
 pub small_work : (timings : List Timing) → All IsTiming timings → IsSmall (work_of timings)
 small_work timings small = record {
   cost = λ m number. (small (m - 1) no_timing (omega (arith, number.from, number.to))).cost;
-  release = λ m number. (small (m - 1) no_timing (omega (arith, number.from, number.to))).release;
+  floor = λ m number. (small (m - 1) no_timing (omega (arith, number.from, number.to))).floor;
   think = λ m number. (small (m - 1) no_timing (omega (arith, number.from, number.to))).think;
 }
 
@@ -96,7 +96,7 @@ module _ (tree : List Node) (spans : List Span) (assigned : List ℕ) (work : Wo
 
     soon : issue_of work start m ≤ late order + MAX_THINK
     soon =
-        issue_soon (finish_of work start) (work.release m) (work.think m) (late order) (work.follows m) (omega (arith, small.release m m_number))
+        issue_soon (finish_of work start) (work.floor m) (work.think m) (late order) (work.follows m) (omega (arith, small.floor m m_number))
         (small.think m m_number) followed_early
 
     module _ (s : ℕ) (latest : Option Latest) (found : IsLatestExcluding tree assigned (finish_of work start) order (affinity_of assigned m) latest)

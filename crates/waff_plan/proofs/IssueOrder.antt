@@ -7,7 +7,7 @@ use Rattle.waff_plan.specs.Obeys.{IsForward, FollowsEarlier}
 use Rattle.waff_plan.specs.Issues.{IsIssuedBefore, IsServedBefore}
 use Rattle.waff_plan.specs.IssueLaws.{IssueIsArrival}
 use Rattle.waff_model.specs.declared.message.Version.TheVariants.{V3}
-use Rattle.waff_plan.proofs.NoClients.{issue_is_release}
+use Rattle.waff_plan.proofs.NoClients.{issue_is_floor}
 use Rattle.waff_plan.proofs.Places.{keyed_not_itself, keyed_on, one_is_keyed_first}
 use Rattle.waff_plan.proofs.Orders.{follower_first, serves_forward, service_key}
 
@@ -51,8 +51,8 @@ issue_is_arrival tree assigned work start same none rise i j = (
   },
 )
   where
-    at : (m : ℕ) → issue_of work start m ≡ work.release m
-    at m = issue_is_release work none start m
+    at : (m : ℕ) → issue_of work start m ≡ work.floor m
+    at m = issue_is_floor work none start m
 
     lower : IsIssuedBefore work start i j → i < j
     lower (inl sooner) = elim (cases_order i j) [

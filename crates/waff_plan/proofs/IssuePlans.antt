@@ -6,7 +6,7 @@ use Rattle.waff_plan.specs.Work.{Work, IsNumber}
 use Rattle.waff_plan.specs.Obeys.{IsLeast, IsLinked, FollowsEarlier, StartsIssued}
 use Rattle.waff_plan.specs.Order.{ComesBefore, IsServiceKey, Key, Serves}
 use Rattle.waff_plan.specs.Unique.{AreSame}
-use Rattle.waff_plan.proofs.Holding.{release-le-issue, held_until, holds-same}
+use Rattle.waff_plan.proofs.Holding.{floor-le-issue, held_until, holds-same}
 use Rattle.waff_plan.proofs.Chains.{least_is_earliest}
 use Rattle.waff_plan.proofs.Orders.{follower_first, served_linked, serves_forward}
 
@@ -49,7 +49,7 @@ module _ (tree : List Node) (assigned : List ℕ) (work : Work) (key : Key) (fol
       let now_other : key start k ≡ key other k
       = due_issue start other least.obeys.issued t k agree k (λ i issued. due_at (key start) t k i issued now) in
       least_is_earliest before work start forward least k number (other k)
-      (omega (arith, release-le-issue other_before work other k, other_least.obeys.issued k number))
+      (omega (arith, floor-le-issue other_before work other k, other_least.obeys.issued k number))
       (λ i linked.
       let first = forward.first i k linked in
       let issued = served_linked tree assigned work start (key start) least.obeys.issued follows (service.rises start) i k linked in

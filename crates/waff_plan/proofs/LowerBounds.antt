@@ -20,7 +20,7 @@ use Rattle.waff_plan.specs.declared.timing.Timing.{Timing}
 use Rattle.waff_plan.specs.Work.{IsNumber, Work, finish_of, greatest, issue_after, length_of, numbers, total_of}
 use Rattle.waff_plan.specs.Workers.{IsWorkerPlan, running, runs_at}
 use Rattle.waff_plan.proofs.ApartLaws.{runs_from, runs_parts}
-use Rattle.waff_plan.proofs.Holding.{release-le-issue}
+use Rattle.waff_plan.proofs.Holding.{floor-le-issue}
 use Rattle.waff_plan.proofs.Longest.{finish_of-le-length_of, length_of-le, sum_more}
 use Rattle.waff_plan.proofs.Shares.{share_is_within}
 use Rattle.waff_plan.proofs.Ticks.{sum_by-numbers-le, total_is_within_workers}
@@ -60,11 +60,11 @@ issue_within work other n release think s (Some f) below issued = omega (arith, 
 finish_within : (work : Work) (other : ℕ → ℕ) → FollowsEarlier work → StartsIssued work other → (n m : ℕ) → IsNumber work m
     → finish_by work n m ≤ finish_of work other m
 finish_within work other follows issued zero m number =
-    omega (arith, release-le-issue Unordered work other m, issued m number)
+    omega (arith, floor-le-issue Unordered work other m, issued m number)
 finish_within work other follows issued (suc n) m number =
     omega (
       arith,
-      issue_within work other n (work.release m) (work.think m) (other m) (work.follows m)
+      issue_within work other n (work.floor m) (work.think m) (other m) (work.follows m)
           (λ f is.
           let before = follows f m is in
           finish_within work other follows issued n f (record { from = before.from; to = omega (arith, before.earlier, before.to) }))
@@ -220,7 +220,7 @@ module _ (tree : List Node) (assigned : List ℕ) (work : Work) where
 
   -- the messages in an affinity and above it, as work of its own
   abbrev path_work : ℕ → ℕ → Work
-  path_work n a = record { count = work.count; cost = λ m. part n a m; release = λ m. 0; follows = λ m. None; think = λ m. 0 }
+  path_work n a = record { count = work.count; cost = λ m. part n a m; floor = λ m. 0; follows = λ m. None; think = λ m. 0 }
 
   -- of them at most one runs at a tick
   path_running : IsTree tree → length assigned ≡ work.count → (other : ℕ → ℕ) → AreApart (IsOrdered tree assigned) work other → (n a t : ℕ)
@@ -283,31 +283,31 @@ module _ (work : Work) (follows : FollowsEarlier work) where
   enough : (n k m : ℕ) → m ≤ n + 1 → m ≤ k + 1 → finish_by work n m ≡ finish_by work k m
   enough zero zero m few also = refl
   enough zero (suc k) m few also =
-      sym (ap (λ o. issue_after (work.release m) (work.think m) (option_map (finish_by work k) o) + work.cost m) (alone m (work.follows m) (omega (arith, few)) refl))
+      sym (ap (λ o. issue_after (work.floor m) (work.think m) (option_map (finish_by work k) o) + work.cost m) (alone m (work.follows m) (omega (arith, few)) refl))
   enough (suc n) zero m few also =
-      ap (λ o. issue_after (work.release m) (work.think m) (option_map (finish_by work n) o) + work.cost m) (alone m (work.follows m) (omega (arith, also)) refl)
+      ap (λ o. issue_after (work.floor m) (work.think m) (option_map (finish_by work n) o) + work.cost m) (alone m (work.follows m) (omega (arith, also)) refl)
   enough (suc n) (suc k) m few also =
-      ap (λ o. issue_after (work.release m) (work.think m) o + work.cost m)
+      ap (λ o. issue_after (work.floor m) (work.think m) o + work.cost m)
       (same_map (finish_by work n) (finish_by work k) (work.follows m)
       (λ f is. let before = follows f m is in enough n k f (omega (arith, before.earlier, few)) (omega (arith, before.earlier, also))))
 
   -- by the message that it follows
   pub client_is : (m : ℕ) → IsNumber work m
-      → client_finish work m ≡ issue_after (work.release m) (work.think m) (option_map (client_finish work) (work.follows m)) + work.cost m
+      → client_finish work m ≡ issue_after (work.floor m) (work.think m) (option_map (client_finish work) (work.follows m)) + work.cost m
   client_is zero number = absurd (omega (arith, number.from))
   client_is (suc k) number =
-      ap (λ o. issue_after (work.release (suc k)) (work.think (suc k)) o + work.cost (suc k))
+      ap (λ o. issue_after (work.floor (suc k)) (work.think (suc k)) o + work.cost (suc k))
       (same_map (finish_by work k) (client_finish work) (work.follows (suc k))
       (λ f is. let before = follows f (suc k) is in enough k f f (omega (arith, before.earlier)) (omega arith)))
 
-  pub client_alone : (m : ℕ) → IsNumber work m → work.follows m ≡ None → client_finish work m ≡ work.release m + work.cost m
+  pub client_alone : (m : ℕ) → IsNumber work m → work.follows m ≡ None → client_finish work m ≡ work.floor m + work.cost m
   client_alone m number none =
-      client_is m number ∙ ap (λ o. issue_after (work.release m) (work.think m) (option_map (client_finish work) o) + work.cost m) none
+      client_is m number ∙ ap (λ o. issue_after (work.floor m) (work.think m) (option_map (client_finish work) o) + work.cost m) none
 
   pub client_after : (m f : ℕ) → IsNumber work m → work.follows m ≡ Some f
-      → client_finish work m ≡ max (work.release m) (client_finish work f + work.think m) + work.cost m
+      → client_finish work m ≡ max (work.floor m) (client_finish work f + work.think m) + work.cost m
   client_after m f number some =
-      client_is m number ∙ ap (λ o. issue_after (work.release m) (work.think m) (option_map (client_finish work) o) + work.cost m) some
+      client_is m number ∙ ap (λ o. issue_after (work.floor m) (work.think m) (option_map (client_finish work) o) + work.cost m) some
 
 -- the costs in an affinity and above it, by those of its parent
 module _ (tree : List Node) (assigned : List ℕ) (work : Work) (rooted : IsRooted tree) where
@@ -357,13 +357,13 @@ pub cost_in_other : (assigned : List ℕ) (work : Work) (a m : ℕ) → (affinit
 cost_in_other assigned work a m other = cond-false (eqb (affinity_of assigned m) a) (work.cost m) 0 (ne_eqb (affinity_of assigned m) a other)
 
 -- what a client needs is small
-pub finish_small : (work : Work) → FollowsEarlier work → ((m : ℕ) → IsNumber work m → (work.release m ≤ 2 ^ 30) × (work.think m ≤ 2 ^ 24) × (work.cost m ≤ 2 ^ 24))
+pub finish_small : (work : Work) → FollowsEarlier work → ((m : ℕ) → IsNumber work m → (work.floor m ≤ 2 ^ 30) × (work.think m ≤ 2 ^ 24) × (work.cost m ≤ 2 ^ 24))
     → (n m : ℕ) → IsNumber work m → finish_by work n m ≤ 2 ^ 30 + m * 2 ^ 25
 finish_small work follows limits zero m number = let limit = limits m number in omega (arith, limit.0, limit.2, number.from)
 finish_small work follows limits (suc n) m number = by (work.follows m) refl (λ f known. finish_small work follows limits n f known)
   where
     by : (o : Option ℕ) → work.follows m ≡ o → ((f : ℕ) → IsNumber work f → finish_by work n f ≤ 2 ^ 30 + f * 2 ^ 25)
-        → issue_after (work.release m) (work.think m) (option_map (finish_by work n) o) + work.cost m ≤ 2 ^ 30 + m * 2 ^ 25
+        → issue_after (work.floor m) (work.think m) (option_map (finish_by work n) o) + work.cost m ≤ 2 ^ 30 + m * 2 ^ 25
     by None is small = let limit = limits m number in omega (arith, limit.0, limit.2, number.from)
     by (Some f) is small =
         let limit = limits m number in
@@ -418,10 +418,10 @@ small_more costs n a now cost from within so_far is small b there = elim (cases_
 
 -- the timings of messages are small
 pub timing_limits : (timings : List Timing) → All IsTiming timings → (m : ℕ) → IsNumber (work_of timings) m
-    → ((work_of timings).release m ≤ 2 ^ 30) × ((work_of timings).think m ≤ 2 ^ 24) × ((work_of timings).cost m ≤ 2 ^ 24)
+    → ((work_of timings).floor m ≤ 2 ^ 30) × ((work_of timings).think m ≤ 2 ^ 24) × ((work_of timings).cost m ≤ 2 ^ 24)
 timing_limits timings small m number =
     let timing = small (m - 1) no_timing (omega (arith, number.from, number.to)) in
-    (omega (arith, timing.release), omega (arith, timing.think), omega (arith, timing.cost))
+    (omega (arith, timing.floor), omega (arith, timing.think), omega (arith, timing.cost))
 
 -- the finishes of the first messages
 module _ (work : Work) (finishes : List ℕ) (are : finishes ≡ map (client_finish work) (range_with_len 1 (length finishes))) (few : length finishes ≤ work.count) where
@@ -429,7 +429,7 @@ module _ (work : Work) (finishes : List ℕ) (are : finishes ≡ map (client_fin
   finish_at i within =
       ap (λ xs. get_or xs i 0) are ∙ get_or-map-range_with_len (client_finish work) 1 (length finishes) i (i + 1) 0 within (omega arith)
 
-  pub each_small : FollowsEarlier work → ((m : ℕ) → IsNumber work m → (work.release m ≤ 2 ^ 30) × (work.think m ≤ 2 ^ 24) × (work.cost m ≤ 2 ^ 24))
+  pub each_small : FollowsEarlier work → ((m : ℕ) → IsNumber work m → (work.floor m ≤ 2 ^ 30) × (work.think m ≤ 2 ^ 24) × (work.cost m ≤ 2 ^ 24))
       → (i : ℕ) → get_or finishes i 0 ≤ 2 ^ 30 + length finishes * 2 ^ 25
   each_small follows limits i = elim (cases_lt i (length finishes)) [
     | inl within ↦

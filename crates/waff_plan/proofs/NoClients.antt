@@ -25,22 +25,22 @@ module _ (work : Work) (none : FollowsNone work) where
   holds_is_finish start i m = omega (arith, gap_is_none i m)
 
   -- a message is issued at its release
-  pub issue_is_release : (start : ℕ → ℕ) (m : ℕ) → issue_of work start m ≡ work.release m
-  issue_is_release start m =
-      ap (λ follows. issue_after (work.release m) (work.think m) (option_map (finish_of work start) follows)) (none m)
+  pub issue_is_floor : (start : ℕ → ℕ) (m : ℕ) → issue_of work start m ≡ work.floor m
+  issue_is_floor start m =
+      ap (λ follows. issue_after (work.floor m) (work.think m) (option_map (finish_of work start) follows)) (none m)
 
   -- the release of a chain is that of its first message
   pub gaps_are_none : (m : ℕ) (rest : List ℕ) → gaps_after work m rest ≡ 0
   gaps_are_none m [] = refl
   gaps_are_none m (next ∷ rest) = omega (arith, gap_is_none m next, gaps_are_none next rest)
 
-  pub chain_release_is_first : (m : ℕ) (rest : List ℕ) → chain_release work (m ∷ rest) ≡ work.release m
+  pub chain_release_is_first : (m : ℕ) (rest : List ℕ) → chain_release work (m ∷ rest) ≡ work.floor m
   chain_release_is_first m rest = omega (arith, gaps_are_none m rest)
 
   -- a plan obeys where each message starts no earlier than its release, and in order
-  pub obeys_released : (before : Relation) (start : ℕ → ℕ) → ((m : ℕ) → IsNumber work m → work.release m ≤ start m) → KeepsOrder before work start
+  pub obeys_released : (before : Relation) (start : ℕ → ℕ) → ((m : ℕ) → IsNumber work m → work.floor m ≤ start m) → KeepsOrder before work start
       → Obeys before work start
   obeys_released before start released ordered = record {
-    issued = λ m number. omega (arith, issue_is_release start m, released m number);
+    issued = λ m number. omega (arith, issue_is_floor start m, released m number);
     ordered = ordered;
   }

@@ -41,7 +41,7 @@ no_gaps before work none m (next ∷ rest) h =
     omega (arith, no_gap (work.think next) m (work.follows next) (none next (first_is_number before work next rest h.2)), no_gaps before work none next rest h.2)
 
 -- where no message has a release either, no chain has one
-no_release : (before : Relation) (work : Work) → ((m : ℕ) → IsNumber work m → work.release m ≡ 0)
+no_release : (before : Relation) (work : Work) → ((m : ℕ) → IsNumber work m → work.floor m ≡ 0)
     → ((m : ℕ) → IsNumber work m → work.think m ≡ 0)
     → (chain : List ℕ) → IsChain before work chain → chain_release work chain ≡ 0
 no_release before work none no_think [] h = refl

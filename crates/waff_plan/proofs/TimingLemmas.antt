@@ -184,19 +184,19 @@ max_none n = omega arith
 
 -- the timing of a message of no client that waits for no think time
 pub timing_alone : (messages : List Message) (n : ℕ) (message : Message) → message_of messages n ≡ message → message.client ≡ no_client → message.think ≡ 0
-    → timing_at messages n ≡ record { cost = message.cost; release = message.release; follows = 0; think = 0 }
+    → timing_at messages n ≡ record { cost = message.cost; floor = message.release; follows = 0; think = 0 }
 timing_alone messages n message is none no_think =
     let alone : one_before (clients_of messages) n ≡ 0
     = none_before (clients_of messages) n (client_is messages n ∙ ap (λ (x : Message). x.client) is ∙ none) in
     let of : Message → Timing = λ x. timing_after x 0 in
-    let with : ℕ → ℕ → Timing = λ think release. record { cost = message.cost; release = release; follows = 0; think = think } in
+    let with : ℕ → ℕ → Timing = λ think floor. record { cost = message.cost; floor = floor; follows = 0; think = think } in
     ap (timing_after (message_of messages n)) alone ∙ ap of is ∙ ap (λ t. with t (max message.release t)) no_think ∙ ap (with 0) (max_none message.release)
 
 -- without clients and thinks each message has its own release
 pub floor_alone : (messages : List Message) (m : ℕ) → IsAmongFirst (length messages) m → (message_of messages m).client ≡ no_client
-    → (message_of messages m).think ≡ 0 → (work_of (timings_of messages)).release m ≡ (message_of messages m).release
+    → (message_of messages m).think ≡ 0 → (work_of (timings_of messages)).floor m ≡ (message_of messages m).release
 floor_alone messages m number none no_think =
-    ap (λ (t : Timing). t.release) (timing_is messages m number ∙ timing_alone messages m (message_of messages m) refl none no_think)
+    ap (λ (t : Timing). t.floor) (timing_is messages m number ∙ timing_alone messages m (message_of messages m) refl none no_think)
 
 floor_small : (message : Message) (f : ℕ) → message.release ≤ MAX_RELEASE → message.think ≤ MAX_THINK → floor_of message f ≤ MAX_RELEASE
 floor_small message zero release think = omega (arith, release, think)
@@ -212,7 +212,7 @@ module _ (trace : Arrivals) (is_trace : IsTrace trace) where
       record {
         some_cost = message.some_cost;
         cost = message.within_cost;
-        release = floor_small (message_of trace.messages m) (one_before (clients_of trace.messages) m) message.within_release message.within_think;
+        floor = floor_small (message_of trace.messages m) (one_before (clients_of trace.messages) m) message.within_release message.within_think;
         think = message.within_think;
       }
 

@@ -16,7 +16,7 @@ use Rattle.waff_plan.specs.Work.{IsNumber, Work, finish_of, greatest, length_of}
 use Rattle.waff_plan.proofs.ApartLaws.{apart_where_finished, turned}
 use Rattle.waff_plan.proofs.Longest.{length_of-le, sum_more}
 use Rattle.waff_plan.proofs.LowerBounds.{cost_in_here, path_is, paths_below}
-use Rattle.waff_plan.proofs.NoClients.{issue_is_release}
+use Rattle.waff_plan.proofs.NoClients.{issue_is_floor}
 
 -- fewer of the first numbers sum up to less
 sum_to : (f : ℕ → ℕ) (k n : ℕ) → k ≤ n → sum_by f (range_with_len 1 k) ≤ sum_by f (range_with_len 1 n)
@@ -92,10 +92,10 @@ module _ (tree : List Node) (assigned : List ℕ) (work : Work) (is : IsTree tre
         ]
       ]
 
-  obeys : length assigned ≡ work.count → FollowsNone work → ((m : ℕ) → IsNumber work m → work.release m ≡ 0)
+  obeys : length assigned ≡ work.count → FollowsNone work → ((m : ℕ) → IsNumber work m → work.floor m ≡ 0)
       → ObeysInSomeOrder tree assigned work None start
   obeys long none free = record {
-    issued = λ m number. omega (arith, issue_is_release work none start m, free m number);
+    issued = λ m number. omega (arith, issue_is_floor work none start m, free m number);
     apart = apart long;
     within = λ k t some. absurd (none-some k some);
   }

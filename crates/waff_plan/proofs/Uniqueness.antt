@@ -105,14 +105,14 @@ module _ (before : Relation) (work : Work) (start : ℕ → ℕ) where
   ]
 
   -- an end that waited for no message is the whole chain
-  whole : (m : ℕ) (rest : List ℕ) (other : ℕ) (others : List ℕ) → ((i : ℕ) → IsLinked before work i m → holds_until work start m i ≤ work.release m)
+  whole : (m : ℕ) (rest : List ℕ) (other : ℕ) (others : List ℕ) → ((i : ℕ) → IsLinked before work i m → holds_until work start m i ≤ work.floor m)
       → LeadsToEnd before work start other others → IsEnd m rest other others → (m ≡ other) × (rest ≡ others)
   whole m rest other [] free leads end = end
   whole m rest other (next ∷ others) free leads (inl same) = same
   whole m rest other (next ∷ others) free leads (inr end) =
       let shorter = whole m rest next others free leads.2 end in
-      let free_here : holds_until work start next other ≤ work.release next
-      = subst (λ x. holds_until work start x other ≤ work.release x) shorter.0 (free other (subst (λ x. IsLinked before work other x) (sym shorter.0) leads.0.one)) in
+      let free_here : holds_until work start next other ≤ work.floor next
+      = subst (λ x. holds_until work start x other ≤ work.floor x) shorter.0 (free other (subst (λ x. IsLinked before work other x) (sym shorter.0) leads.0.one)) in
       absurd (omega (arith, leads.1, free_here))
 
   number_of_leads : IsForward before work → (m : ℕ) (rest : List ℕ) → LeadsToEnd before work start m rest → IsNumber work m

@@ -34,7 +34,7 @@ IsWithinTwice before work k start =
 -- and at most 2 - 1/k times as long where no message has a release or a think time
 abbrev pub IsWithinRatio : Relation → Work → ℕ → (ℕ → ℕ) → Type 0
 IsWithinRatio before work k start =
-    ((m : ℕ) → IsNumber work m → work.release m ≡ 0)
+    ((m : ℕ) → IsNumber work m → work.floor m ≡ 0)
     → ((m : ℕ) → IsNumber work m → work.think m ≡ 0)
     → (other : ℕ → ℕ) → IsWorkerPlan before work k other
     → left_side work k start ≤ (2 * k - 1) * length_of work other

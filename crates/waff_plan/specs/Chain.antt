@@ -39,7 +39,7 @@ gaps_in work (m ∷ rest) = gaps_after work m rest
 -- runs; 0 where it is empty
 abbrev pub chain_release : Work → List ℕ → ℕ
 chain_release work [] = 0
-chain_release work (m ∷ rest) = work.release m + gaps_after work m rest
+chain_release work (m ∷ rest) = work.floor m + gaps_after work m rest
 
 -- m is the latest of those that Is holds of: none of them is done later, and none that is done at the
 -- same tick has a lower number
@@ -54,7 +54,7 @@ abbrev pub LeadsToEnd : Relation → Work → (ℕ → ℕ) → ℕ → List ℕ
 LeadsToEnd before work start m [] = IsLatest (IsNumber work) (finish_of work start) m
 LeadsToEnd before work start m (next ∷ rest) =
     IsLatest (λ i. IsLinked before work i next) (holds_until work start next) m
-    × (work.release next < holds_until work start next m)
+    × (work.floor next < holds_until work start next m)
     × LeadsToEnd before work start next rest
 
 -- the printed chain of a plan: it begins with a message that nothing holds back longer than its
@@ -62,5 +62,5 @@ LeadsToEnd before work start m (next ∷ rest) =
 abbrev pub IsPrinted : Relation → Work → (ℕ → ℕ) → List ℕ → Type 0
 IsPrinted before work start [] = work.count ≡ 0
 IsPrinted before work start (m ∷ rest) =
-    ((i : ℕ) → IsLinked before work i m → holds_until work start m i ≤ work.release m)
+    ((i : ℕ) → IsLinked before work i m → holds_until work start m i ≤ work.floor m)
     × LeadsToEnd before work start m rest

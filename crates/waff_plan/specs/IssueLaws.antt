@@ -63,5 +63,5 @@ LeastByIssueIsOne tree assigned work =
 abbrev pub IssueIsArrival : List Node → List ℕ → Work → (ℕ → ℕ) → Type 0
 IssueIsArrival tree assigned work start =
     length assigned ≡ work.count → FollowsNone work
-    → ((i j : ℕ) → i < j → work.release i ≤ work.release j)
+    → ((i j : ℕ) → i < j → work.floor i ≤ work.floor j)
     → (i j : ℕ) → IsServedBefore tree assigned work start i j ↔ IsOrdered tree assigned i j

@@ -12,9 +12,9 @@ use Rattle.waff_plan.specs.declared.latest.Latest.{Latest}
 abbrev pub IsLink : Relation → Work → (ℕ → ℕ) → ℕ → Option ℕ → Type 0
 IsLink before work start m link =
     MatchOption link
-    ((i : ℕ) → IsLinked before work i m → holds_until work start m i ≤ work.release m)
+    ((i : ℕ) → IsLinked before work i m → holds_until work start m i ≤ work.floor m)
     (λ i. IsLatest (λ j. IsLinked before work j m) (holds_until work start m) i
-    × (work.release m < holds_until work start m i))
+    × (work.floor m < holds_until work start m i))
 
 -- the links of the first n messages
 abbrev pub AreLinks : Relation → Work → (ℕ → ℕ) → ℕ → List (Option ℕ) → Type 0

@@ -24,9 +24,9 @@ pub record ObeysInSomeOrder (tree : List Node) (assigned : List ℕ) (work : Wor
 -- the finish of message m where each message of its client starts as soon as it is issued, by at most
 -- so many messages before it
 abbrev pub finish_by : Work → ℕ → ℕ → ℕ
-finish_by work zero m = work.release m + work.cost m
+finish_by work zero m = work.floor m + work.cost m
 finish_by work (suc n) m =
-    issue_after (work.release m) (work.think m) (option_map (finish_by work n) (work.follows m))
+    issue_after (work.floor m) (work.think m) (option_map (finish_by work n) (work.follows m))
     + work.cost m
 
 -- the finish of message m where it waits for its client alone: fewer than m messages are before it

@@ -73,7 +73,7 @@ floor_of message (suc n) = message.release
 abbrev pub timing_after : Message → ℕ → Timing
 timing_after message follows = record {
   cost = message.cost;
-  release = floor_of message follows;
+  floor = floor_of message follows;
   follows = follows;
   think = message.think;
 }

@@ -7,13 +7,13 @@ use Rattle.waff_plan.specs.declared.timing.Timing.{Timing}
 
 -- of no message
 abbrev pub no_timing : Timing
-no_timing = record { cost = 0; release = 0; follows = 0; think = 0 }
+no_timing = record { cost = 0; floor = 0; follows = 0; think = 0 }
 
 -- a timing within the limits of messages
 pub record IsTiming (timing : Timing) : Type 0 where
   pub some_cost : 1 ≤ timing.cost
   pub cost : timing.cost ≤ MAX_COST
-  pub release : timing.release ≤ MAX_RELEASE
+  pub floor : timing.floor ≤ MAX_RELEASE
   pub think : timing.think ≤ MAX_THINK
 
 -- the timing of message n, from 1
@@ -30,7 +30,7 @@ abbrev pub work_of : List Timing → Work
 work_of timings = record {
   count = length timings;
   cost = λ m. (timing_of timings m).cost;
-  release = λ m. (timing_of timings m).release;
+  floor = λ m. (timing_of timings m).floor;
   follows = λ m. some_number (timing_of timings m).follows;
   think = λ m. (timing_of timings m).think;
 }

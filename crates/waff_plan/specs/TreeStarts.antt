@@ -22,6 +22,6 @@ tree_start tree assigned work m =
 abbrev pub TreeIsReached : List Node → List ℕ → Work → Type 0
 TreeIsReached tree assigned work =
     IsTree tree → length assigned ≡ work.count → All (λ a. a < length tree) assigned → FollowsNone work
-    → ((m : ℕ) → IsNumber work m → work.release m ≡ 0)
+    → ((m : ℕ) → IsNumber work m → work.floor m ≡ 0)
     → ObeysInSomeOrder tree assigned work None (tree_start tree assigned work)
     × (length_of work (tree_start tree assigned work) ≡ greatest (map (path_cost tree assigned work) (range_with_len 0 (length tree))))

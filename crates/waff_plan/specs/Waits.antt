@@ -17,7 +17,7 @@ IsWait Issue before work start m wait = IsWaitedFor before work start m wait
 -- the same, where this is the latest of those before m that exclude it
 abbrev pub wait_of : Since → Work → (ℕ → ℕ) → ℕ → Option Latest → Option ℕ
 wait_of Release work start m latest =
-    link_of (later_of latest (followed_of work start m (work.follows m))) (work.release m)
+    link_of (later_of latest (followed_of work start m (work.follows m))) (work.floor m)
 wait_of Issue work start m latest = link_of latest (issue_of work start m)
 
 -- those that the first n messages waited for

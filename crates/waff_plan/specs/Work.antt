@@ -1,6 +1,6 @@
--- Work to be done: messages numbered from 1, each with its cost in ticks and the tick of its
--- release. A message may follow another of the same client: it is issued a think time after that one
--- has finished. A plan is a map from the number of a message to its start tick.
+-- Work to be done: messages numbered from 1, each with its cost in ticks and its floor, the tick before
+-- which it may not start. A message may follow another of the same client: it is issued a think time
+-- after that one has finished. A plan is a map from the number of a message to its start tick.
 use Rattle.std.specs.Prelude.{ℕ, ◌+◌, ◌==◌, max, List, [], ◌∷◌, map, sum_by, Option, Some, None}
 use Rattle.std.specs.Prelude.{option_map, if◌then◌else◌}
 use Rattle.std.specs.List.{range_with_len}
@@ -12,7 +12,7 @@ pub use Rattle.waff_model.specs.Numbers.{IsAmongFirst}
 pub record Work : Type 0 where
   pub count : ℕ
   pub cost : ℕ → ℕ
-  pub release : ℕ → ℕ
+  pub floor : ℕ → ℕ
   pub follows : ℕ → Option ℕ
   pub think : ℕ → ℕ
 
@@ -28,17 +28,17 @@ numbers work = range_with_len 1 work.count
 abbrev pub finish_of : Work → (ℕ → ℕ) → ℕ → ℕ
 finish_of work start m = start m + work.cost m
 
--- the issue of a message with this release and think time, which follows none, or one that has
+-- the issue of a message with this floor and think time, which follows none, or one that has
 -- finished at this tick
 abbrev pub issue_after : ℕ → ℕ → Option ℕ → ℕ
-issue_after release think None = release
-issue_after release think (Some finish) = max release (finish + think)
+issue_after floor think None = floor
+issue_after floor think (Some finish) = max floor (finish + think)
 
--- the tick at which message m is issued: its release, or where that is later its think time after the
+-- the tick at which message m is issued: its floor, or where that is later its think time after the
 -- finish of the message that it follows
 abbrev pub issue_of : Work → (ℕ → ℕ) → ℕ → ℕ
 issue_of work start m =
-    issue_after (work.release m) (work.think m) (option_map (finish_of work start) (work.follows m))
+    issue_after (work.floor m) (work.think m) (option_map (finish_of work start) (work.follows m))
 
 -- this think time where message i is the one that is followed, else 0
 abbrev pub gap_after : ℕ → ℕ → Option ℕ → ℕ

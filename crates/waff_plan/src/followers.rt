@@ -39,7 +39,7 @@ pub fn first_issues(alloc: Global, timings: &[Timing]) -> Result<Due, AllocError
     for m in 1..timings.len() as u32 + 1 {
         let timing = timings[m as usize - 1];
         if timing.follows == 0 {
-            issues.push_reserved(Reverse((u64::from(timing.release), m)));
+            issues.push_reserved(Reverse((u64::from(timing.floor), m)));
         }
     }
     Ok(Due::of(alloc, issues))

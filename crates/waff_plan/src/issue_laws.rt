@@ -25,7 +25,7 @@ pub fn no_clients_are_followed()
         → FollowsNone (work_of_messages messages) }
     ensures released { (messages : List Message) → AreOfNoClient messages
         → (m : ℕ) → IsAmongFirst (length messages) m
-        → (work_of_messages messages).release m ≡ (message_of messages m).release }
+        → (work_of_messages messages).floor m ≡ (message_of messages m).release }
 {}
 
 /// What a message follows by its client comes earlier in the trace.

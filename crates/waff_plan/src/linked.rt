@@ -4,7 +4,7 @@ ghost use Rattle.std.specs.Prelude.{◌≡◌};
 
 use std::marker::Model;
 
-/// A chain: messages, by number from 1, each of which excludes and precedes the next.
+/// A chain: messages, by number from 1, each of which is served before the next and holds it back.
 pub struct Chain {
     messages: Vec<u32>,
     cost: u64,
@@ -36,7 +36,7 @@ impl Drop for Chain {
 }
 
 impl Chain {
-    /// The chain of these messages, of this cost and with this release.
+    /// The chain of these messages, with their cost and its release.
     pub(crate) fn new(messages: Vec<u32>, cost: u64, release: u64) -> Self
         ensures { result ≡ record { messages = messages.items; cost = cost; release = release } }
     {
@@ -61,7 +61,8 @@ impl Chain {
         self.cost
     }
 
-    /// The release of the first message, in ticks; 0 where there is no message.
+    /// The ticks in which nothing of it runs: those before its first message, and the think times between its
+    /// messages. 0 where there is no message.
     pub fn release(&self) -> u64
         ensures { result ≡ self.now.release }
     {

@@ -145,13 +145,14 @@ impl Plan {
         self.start(n) + self.cost(n)
     }
 
-    /// The tick before which message `n` may not start, whatever the others do.
+    /// The floor of message `n`: the tick before which it may not start, whatever the others do. It is its
+    /// release, or where it is the first of its client its think time, if that is later.
     pub fn release(&self, n: u32) -> u64
         requires number { IsAmongFirst (length self.now.timings) n }
-        ensures release { result ≡ (timing_of self.now.timings n).release }
+        ensures release { result ≡ (timing_of self.now.timings n).floor }
         ensures small { result < 2 ^ 32 }
     {
-        u64::from(self.timings[n as usize - 1].release)
+        u64::from(self.timings[n as usize - 1].floor)
     }
 
     /// The number of the message that message `n` follows: the one before it of its client, 0 where

@@ -15,8 +15,9 @@ use waff_model::{Message, Trace};
 pub struct Timing {
     /// The running time, in ticks.
     pub cost: u32,
-    /// The tick before which the message may not start, whatever the others do.
-    pub release: u32,
+    /// The tick before which the message may not start, whatever the others do: its release, or where it is the
+    /// first of its client its think time, if that is later.
+    pub floor: u32,
     /// The number of the message before it of its client, 0 where it follows none.
     pub follows: u32,
     /// How many ticks after the finish of that one it is issued.
@@ -66,14 +67,14 @@ fn note_last<'a>(
 fn timing_after(message: &Message, follows: u32) -> Timing
     ensures { result ≡ timing_after message.now follows }
 {
-    let release = if follows == 0 {
+    let floor = if follows == 0 {
         message.release.max(message.think)
     } else {
         message.release
     };
     Timing {
         cost: message.cost,
-        release,
+        floor,
         follows,
         think: message.think,
     }

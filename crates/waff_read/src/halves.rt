@@ -10,7 +10,7 @@ ghost use Rattle.waff_read.specs.Traces as traces;
 
 use crate::lines::cut_lines;
 use crate::space_table::SpaceTable;
-use crate::trace::{Messages, read_bytes, read_messages, read_trace};
+use crate::trace::{Messages, read_bytes, read_messages, read_trace_up_to};
 use crate::trace_fault::TraceError;
 use csv::StringRecord;
 use std::alloc::Global;
@@ -135,5 +135,5 @@ pub fn read_trace_by_threads<R: Threads + Sync>(
             return Ok(trace);
         }
     }
-    read_trace(alloc, layout, newest, bytes)
+    read_trace_up_to(alloc, layout, newest, bytes)
 }

@@ -197,7 +197,7 @@ fn layout_of(
     ensures { Reads (λ layout.
         layout) result (told layout_error (layout_of format kind tree spaces.now maps.now)) }
 {
-    match Layout::new(alloc, format, kind, tree, spaces, maps) {
+    match Layout::with_format(alloc, format, kind, tree, spaces, maps) {
         Ok(layout) => Ok(layout),
         Err(e) => match e {
             LayoutError::Memory => Err(HierError::Memory),

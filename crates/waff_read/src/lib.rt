@@ -39,5 +39,5 @@ mod trace_fault;
 pub use halves::read_trace_by_threads;
 pub use hier_error::{HierError, Key};
 pub use hierarchy::{read_format, read_hierarchy};
-pub use trace::read_trace;
+pub use trace::{read_trace, read_trace_up_to};
 pub use trace_fault::TraceError;

@@ -14,7 +14,6 @@ use std::alloc::{AllocError, Global};
 use std::process::Abort;
 use waff_assign::{Case, assign};
 use waff_list::{Rule, WorkerPlan, list_plan_of};
-use waff_model::Version;
 use waff_plan::printed::chain;
 use waff_plan::unlimited::plan;
 use waff_plan::{Chain, Plan};
@@ -155,7 +154,7 @@ fn is_listed(
 /// All plans of the trace have to be those of the slow programs.
 fn agree(rt: &impl Abort, alloc: Global, number: u32, hierarchy: &str, trace: &str) {
     let layout = read_hierarchy(alloc, hierarchy.as_bytes()).expect(rt, "a hierarchy");
-    let trace = read_trace(alloc, &layout, Version::V3, trace.as_bytes()).expect(rt, "a trace");
+    let trace = read_trace(alloc, &layout, trace.as_bytes()).expect(rt, "a trace");
     let assigned = assign(alloc, &layout, &trace).expect(rt, "affinities");
     let case = Case {
         tree: layout.tree(),

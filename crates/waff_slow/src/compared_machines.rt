@@ -14,7 +14,7 @@ use std::alloc::{AllocError, Global};
 use std::process::Abort;
 use waff_assign::assign;
 use waff_core::{CoreError, CoreState, Event, Job, run_events};
-use waff_model::{AffinityId, Cell, Layout, Trace, Version};
+use waff_model::{AffinityId, Cell, Layout, Trace};
 use waff_order::predecessors::needs;
 use waff_read::{read_hierarchy, read_trace};
 
@@ -78,7 +78,7 @@ fn refusal(place: usize, fault: Fault) -> CoreError {
 /// The job of the trace in this order.
 fn job(rt: &impl Abort, alloc: Global, hierarchy: &str, trace: &str, order: &[u32]) -> Job {
     let layout = read_hierarchy(alloc, hierarchy.as_bytes()).expect(rt, "a hierarchy");
-    let trace = read_trace(alloc, &layout, Version::V3, trace.as_bytes()).expect(rt, "a trace");
+    let trace = read_trace(alloc, &layout, trace.as_bytes()).expect(rt, "a trace");
     let assigned = assign(alloc, &layout, &trace).expect(rt, "affinities");
     let needs = needs(alloc, layout.tree(), &assigned).expect(rt, "needs");
     assert!(rt; layout.has_few_cells());
@@ -153,7 +153,7 @@ fn agree(
     requires few { seats ≤ 16 }
 {
     let layout = read_hierarchy(alloc, hierarchy.as_bytes()).expect(rt, "a hierarchy");
-    let trace = read_trace(alloc, &layout, Version::V3, text.as_bytes()).expect(rt, "a trace");
+    let trace = read_trace(alloc, &layout, text.as_bytes()).expect(rt, "a trace");
     let mut machine = opening(rt, alloc, &layout, &trace, seats);
     let events = play(alloc, dice, &mut machine, &trace).expect(rt, "events");
     let job = job(rt, alloc, hierarchy, text, &machine.order);

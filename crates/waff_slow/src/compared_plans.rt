@@ -168,7 +168,7 @@ fn is_least(rt: &impl Abort, alloc: Global, work: &Work, case: &Case<'_>) {
 /// All plans of the trace have to be those of the slow programs.
 fn agree(rt: &impl Abort, alloc: Global, number: u32, hierarchy: &str, trace: &str) {
     let layout = read_hierarchy(alloc, hierarchy.as_bytes()).expect(rt, "a hierarchy");
-    let trace = read_trace(alloc, &layout, Version::V3, trace.as_bytes()).expect(rt, "a trace");
+    let trace = read_trace(alloc, &layout, trace.as_bytes()).expect(rt, "a trace");
     assert!(rt; trace.version() != Version::V3);
     let assigned = assign(alloc, &layout, &trace).expect(rt, "affinities");
     let needs = needs(alloc, layout.tree(), &assigned).expect(rt, "needs");

@@ -68,10 +68,10 @@ record IsModest (version : Version) (work : Work) : Type 0 where
   few : work.count ≤ MAX_MESSAGES
   some_cost : (m : ℕ) → IsNumber work m → 1 ≤ work.cost m
   cost : (m : ℕ) → IsNumber work m → work.cost m ≤ MAX_COST
-  release : (m : ℕ) → IsNumber work m → work.release m ≤ MAX_RELEASE
+  release : (m : ℕ) → IsNumber work m → work.floor m ≤ MAX_RELEASE
   think : (m : ℕ) → IsNumber work m → work.think m ≤ MAX_THINK
   alone : version ≡ V1 → FollowsNone work
-  no_release : version ≡ V1 → (m : ℕ) → IsNumber work m → work.release m ≡ 0
+  no_release : version ≡ V1 → (m : ℕ) → IsNumber work m → work.floor m ≡ 0
 
 -- the first version is not the third
 first_is_early : (version : Version) → version ≡ V1 → version ≢ V3

@@ -6,7 +6,6 @@ use std::alloc::Global;
 use std::process::Abort;
 use std::thread::Threads;
 use waff_assign::assign;
-use waff_model::Version;
 use waff_order::refines;
 use waff_read::{HierError, read_hierarchy, read_trace};
 use waff_samples::{C1, COMPARE_C1_H1_X1, COMPARE_C2_H1, H1, X1, X2};
@@ -90,7 +89,7 @@ fn want_two_models_of_equal_sizes(rt: HostRuntime) {
 fn first_refines(rt: &impl Abort, alloc: Global, first: &str, second: &str) -> bool {
     let first = read_hierarchy(alloc, first.as_bytes()).expect(rt, "a hierarchy");
     let second = read_hierarchy(alloc, second.as_bytes()).expect(rt, "a hierarchy");
-    let trace = read_trace(alloc, &first, Version::V3, X1.as_bytes()).expect(rt, "a trace");
+    let trace = read_trace(alloc, &first, X1.as_bytes()).expect(rt, "a trace");
     assert!(rt; trace.fits(&second));
     let fine = assign(alloc, &first, &trace).expect(rt, "affinities");
     let coarse = assign(alloc, &second, &trace).expect(rt, "affinities");

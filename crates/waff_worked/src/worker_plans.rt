@@ -81,7 +81,7 @@ fn is_told(rt: &impl Abort, alloc: Global, trace: &str, rule: Rule, k: u32, want
     requires { IsWorkers k }
 {
     let layout = read_hierarchy(alloc, H1.as_bytes()).expect(rt, "a hierarchy");
-    let trace = read_trace(alloc, &layout, Version::V3, trace.as_bytes()).expect(rt, "a trace");
+    let trace = read_trace(alloc, &layout, trace.as_bytes()).expect(rt, "a trace");
     assert!(rt; trace.version() != Version::V3);
     let assigned = assign(alloc, &layout, &trace).expect(rt, "affinities");
     let needs = needs(alloc, layout.tree(), &assigned).expect(rt, "needs");
@@ -255,7 +255,7 @@ fn change_by_no_rule_without_workers(rt: HostRuntime) {
 /// The needs of the messages of a trace under the hierarchical sample.
 fn needed(rt: &impl Abort, alloc: Global, trace: &str) -> Needs {
     let layout = read_hierarchy(alloc, H1.as_bytes()).expect(rt, "a hierarchy");
-    let trace = read_trace(alloc, &layout, Version::V3, trace.as_bytes()).expect(rt, "a trace");
+    let trace = read_trace(alloc, &layout, trace.as_bytes()).expect(rt, "a trace");
     let assigned = assign(alloc, &layout, &trace).expect(rt, "affinities");
     let needs = needs(alloc, layout.tree(), &assigned).expect(rt, "needs");
     drop(assigned);
@@ -321,7 +321,7 @@ const STARTS: &[(&str, &[u64], (u64, u64))] = &[
 /// total.
 fn is_as_long(rt: &impl Abort, alloc: Global, trace: &str, starts: &[u64], wanted: (u64, u64)) {
     let layout = read_hierarchy(alloc, H1.as_bytes()).expect(rt, "a hierarchy");
-    let trace = read_trace(alloc, &layout, Version::V3, trace.as_bytes()).expect(rt, "a trace");
+    let trace = read_trace(alloc, &layout, trace.as_bytes()).expect(rt, "a trace");
     assert!(rt; trace.len() as usize == starts.len());
     assert!(rt; starts.iter().all(|start| *start <= MAX_TICK));
     let plan = Plan::of_starts(alloc, &trace, starts).expect(rt, "a plan");

@@ -78,7 +78,7 @@ pub fn laid_out(
 ) -> Result<Layout, LayoutError> {
     let spaces = spaces_to_be(alloc, spaces).expect(rt, "spaces");
     let maps = maps_to_be(alloc, maps).expect(rt, "maps");
-    let layout = Layout::new(alloc, format, Kind::Hierarchical, tree, &spaces, &maps);
+    let layout = Layout::with_format(alloc, format, Kind::Hierarchical, tree, &spaces, &maps);
     drop(spaces);
     drop(maps);
     layout

@@ -4,7 +4,7 @@ use crate::same::is_same;
 use std::alloc::Global;
 use std::process::Abort;
 use waff_model::{Cell, Layout, Op, Version};
-use waff_read::{read_hierarchy, read_trace};
+use waff_read::{read_hierarchy, read_trace, read_trace_up_to};
 
 /// A hierarchy of one affinity, with a space of 8 cells and one of 2,048.
 const LARGE: &str = "model = 'hierarchical'\n\
@@ -24,7 +24,7 @@ fn is_refused(
     trace: &str,
     wanted: &str,
 ) {
-    let refusal = read_trace(alloc, layout, newest, trace.as_bytes()).err();
+    let refusal = read_trace_up_to(alloc, layout, newest, trace.as_bytes()).err();
     let told = format!(in alloc; "{refusal:?}").expect(rt, "words");
     is_same(rt, told.as_str(), wanted);
 }
@@ -155,9 +155,7 @@ fn are_read_in_the_third_version(rt: HostRuntime) {
     let text = format!(in rt.alloc();
         "{HEADER}m,3,5,c.1,7,set f:4-6 1;read f:0\nn,1,0,-,0,add d:0-1 2"
     ).expect(&rt, "a text");
-    let trace = read_trace(rt.alloc(), &layout, Version::V3, text.as_bytes()).expect(
-        &rt, "a trace",
-    );
+    let trace = read_trace(rt.alloc(), &layout, text.as_bytes()).expect(&rt, "a trace");
     assert!(rt; trace.version() == Version::V3);
     assert!(rt; trace.len() == 2);
     assert!(rt; trace.op_count() == 6);

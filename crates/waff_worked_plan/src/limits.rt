@@ -4,7 +4,7 @@ use std::alloc::Global;
 use std::process::Abort;
 use waff_assign::assign;
 use waff_limits::data::most_used_cell;
-use waff_model::{Layout, Version};
+use waff_model::Layout;
 use waff_plan::Peak;
 use waff_plan::lower_bound::longest_client;
 use waff_plan::unlimited::plan;
@@ -37,7 +37,7 @@ fn are_limits(
     cell: Option<(u32, u32, u64)>,
 ) {
     let layout = read_hierarchy(alloc, H1.as_bytes()).expect(rt, "a hierarchy");
-    let trace = read_trace(alloc, &layout, Version::V3, trace.as_bytes()).expect(rt, "a trace");
+    let trace = read_trace(alloc, &layout, trace.as_bytes()).expect(rt, "a trace");
     let assigned = assign(alloc, &layout, &trace).expect(rt, "affinities");
     let plan = plan(alloc, layout.tree(), &assigned, &trace).expect(rt, "a plan");
     let used = most_used_cell(alloc, &trace).expect(rt, "a cell");

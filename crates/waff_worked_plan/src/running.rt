@@ -5,7 +5,7 @@ use std::alloc::{AllocError, Global};
 use std::fmt::Write;
 use std::process::Abort;
 use waff_assign::{Assigned, assign};
-use waff_model::{Layout, Trace, Tree, Version};
+use waff_model::{Layout, Trace, Tree};
 use waff_plan::printed::chain;
 use waff_plan::unlimited::plan;
 use waff_plan::{Chain, Plan};
@@ -23,7 +23,7 @@ pub const RELEASED: &str = "affinities A0 B0 VolA B1 Serial starts 0 2 10 0 12 l
 /// accepted.
 pub fn unlimited(rt: &impl Abort, alloc: Global, hierarchy: &str, trace: &str) -> String {
     let layout = read_hierarchy(alloc, hierarchy.as_bytes()).expect(rt, "a hierarchy");
-    let trace = read_trace(alloc, &layout, Version::V3, trace.as_bytes()).expect(rt, "a trace");
+    let trace = read_trace(alloc, &layout, trace.as_bytes()).expect(rt, "a trace");
     let told = unlimited_of(rt, alloc, &layout, &trace);
     drop(trace);
     drop(layout);

@@ -10,7 +10,7 @@ use waff_samples::H1;
 
 /// The trace has to be refused so, or to be read, which is told as None.
 fn is_refused(rt: &impl Abort, alloc: Global, layout: &Layout, trace: &[u8], wanted: &str) {
-    let refusal = read_trace(alloc, layout, Version::V3, trace).err();
+    let refusal = read_trace(alloc, layout, trace).err();
     let told = format!(in alloc; "{refusal:?}").expect(rt, "words");
     is_same(rt, told.as_str(), wanted);
 }
@@ -227,7 +227,7 @@ fn are_read_in_the_first_version(rt: HostRuntime) {
     let layout = sample(&rt, rt.alloc());
     let text = b"\xef\xbb\xbfmessage,cost,ops\r\n\r\n\"m1\",4,set f:0 5;read g:3\n\
         m.2,1000000,copy f:7 g:3";
-    let trace = read_trace(rt.alloc(), &layout, Version::V3, text).expect(&rt, "a trace");
+    let trace = read_trace(rt.alloc(), &layout, text).expect(&rt, "a trace");
     assert!(rt; trace.version() == Version::V1);
     assert!(rt; trace.len() == 2);
     let (cell, source) = (F7, G3);
@@ -249,7 +249,7 @@ fn are_read_in_the_second_version(rt: HostRuntime) {
     let layout = sample(&rt, rt.alloc());
     let text =
         b"message,cost,release,ops\nm,3,1000000000,swap f:7 f:7;add g:3 18446744073709551615\n";
-    let trace = read_trace(rt.alloc(), &layout, Version::V3, text).expect(&rt, "a trace");
+    let trace = read_trace(rt.alloc(), &layout, text).expect(&rt, "a trace");
     assert!(rt; trace.version() == Version::V2);
     assert!(rt; trace.len() == 1);
     let (cell, other) = (F7, F7);

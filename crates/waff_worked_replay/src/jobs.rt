@@ -6,7 +6,6 @@ use std::alloc::{AllocError, Global};
 use std::process::Abort;
 use waff_assign::assign;
 use waff_core::{Job, JobError};
-use waff_model::Version;
 use waff_order::predecessors::needs;
 use waff_read::{read_hierarchy, read_trace};
 
@@ -20,7 +19,7 @@ pub fn job(
     order: &[u32],
 ) -> Result<Job, JobError> {
     let layout = read_hierarchy(alloc, hierarchy.as_bytes()).expect(rt, "a hierarchy");
-    let trace = read_trace(alloc, &layout, Version::V3, trace.as_bytes()).expect(rt, "a trace");
+    let trace = read_trace(alloc, &layout, trace.as_bytes()).expect(rt, "a trace");
     let assigned = assign(alloc, &layout, &trace).expect(rt, "affinities");
     let needs = needs(alloc, layout.tree(), &assigned).expect(rt, "needs");
     assert!(rt; layout.has_few_cells());

@@ -8,7 +8,7 @@ use std::alloc::{AllocError, Global};
 use std::fmt::Write;
 use std::process::Abort;
 use waff_cells::State;
-use waff_model::{Cell, Layout, Trace, Version};
+use waff_model::{Cell, Layout, Trace};
 use waff_read::{read_hierarchy, read_trace};
 use waff_replay::serial;
 use waff_samples::{H1, X1, X2};
@@ -53,7 +53,7 @@ fn stepped(alloc: Global, layout: &Layout, trace: &Trace) -> Result<State, Alloc
 /// The messages one after another, and the serial run, have to leave this.
 fn leaves(rt: &impl Abort, alloc: Global, trace: &str, wanted: &str) {
     let layout = read_hierarchy(alloc, H1.as_bytes()).expect(rt, "a hierarchy");
-    let trace = read_trace(alloc, &layout, Version::V3, trace.as_bytes()).expect(rt, "a trace");
+    let trace = read_trace(alloc, &layout, trace.as_bytes()).expect(rt, "a trace");
     let stepped = stepped(alloc, &layout, &trace).expect(rt, "a state");
     is_left(rt, alloc, &layout, &stepped, wanted);
     drop(stepped);

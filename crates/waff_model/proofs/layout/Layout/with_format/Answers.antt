@@ -1,7 +1,7 @@
 use Rattle.std.proofs.Common.{subst}
 use Rattle.waff_model.specs.Tree.{IsTree}
 use Rattle.waff_model.proofs.LayoutLemmas.{is_layout}
-use Rattle.waff_model.proofs.layout.Layout.new.Goals as goal
+use Rattle.waff_model.proofs.layout.Layout.with_format.Goals as goal
 
 pub invariant_of-result : goal.invariant_of-result
 invariant_of-result c =
