@@ -53,6 +53,7 @@ class Case:
             folder = pathlib.Path(name)
             files = shutil.copytree(ROOT / "examples", folder / "files")
             for beside in {BOX, *filter(pathlib.Path.is_dir, self.folder.iterdir())}:
+                shutil.rmtree(files / beside.name, ignore_errors=True)
                 (files / beside.name).symlink_to(beside)
             (folder / "waff").symlink_to(program)
             path = f"{folder}:{ROOT / 'workloads'}:{os.environ['PATH']}:{self.folder}"

@@ -1,7 +1,8 @@
 #!/usr/bin/env python3
 """A plain planner of traces with clients, by definition and slowly: what waff prints of traces of all three versions.
 
-    tests/random/clients.py COMMAND FILE ..      assign, plan, check, replay, compare, sweep, rate, rank, waits, where, needs or draw, as waff has them
+    tests/random/clients.py COMMAND FILE ..      assign, plan, check, replay, compare, sweep, limits, rate, rank, waits, where, why, needs or draw, as
+                                                 waff has them
 
 Of `draw` it has events alone. It has no proof and shares no line with the program. A hierarchy has to be right but for its sizes; traces and plan texts are refused as
 waff does. Plans are made from tick to tick, over all pairs of messages, so take some hundred messages at most.
@@ -15,7 +16,7 @@ import sys
 import tomllib
 from argparse import ArgumentParser, Namespace
 from collections import Counter
-from collections.abc import Callable, Iterator
+from collections.abc import Callable, Iterable, Iterator, Sequence
 from dataclasses import dataclass, field
 from itertools import pairwise, product
 
@@ -281,15 +282,30 @@ class World:
         found = -(-self.total // workers) if workers else 0
         if self.version < 3:
             return max(found, plan_of(self, None).length())
-        ends = list[int]()
+        return max([found, *self.ends(), *self.works()])
+
+    def ends(self) -> list[int]:
+        """When each message has finished at the soonest, if none waits but for its own client."""
+        found = list[int]()
         for m in self.all:
             before, it = self.before(m), self.messages[m]
-            ends.append(max(it.release, (0 if before is None else ends[before]) + it.think) + it.cost)
-        works = [
-            sum(self.messages[m].cost for m in self.all if self.affinities[m] in self.tree.way(affinity))
-            for affinity in range(len(self.tree.names))
-        ]
-        return max([found, *ends, *works])
+            found.append(max(it.release, (0 if before is None else found[before]) + it.think) + it.cost)
+        return found
+
+    def works(self) -> list[int]:
+        """What the messages at or above each affinity cost."""
+        return [self.cost(m for m in self.all if self.affinities[m] in self.tree.way(affinity)) for affinity in range(len(self.tree.names))]
+
+    def cost(self, messages: Iterable[int]) -> int:
+        return sum(self.messages[m].cost for m in messages)
+
+    def place(self, cell: Cell) -> tuple[int, int]:
+        """A cell by the number of its space, then its index."""
+        return list(self.tree.sizes).index(cell[0]), cell[1]
+
+    def footprint(self, message: int) -> list[Cell]:
+        """The cells of a message, each once, in their order."""
+        return sorted(set(cells_of(self.messages[message])), key=self.place)
 
 
 def cells_of(message: Message) -> list[Cell]:
@@ -335,6 +351,22 @@ class Plan:
     def waited_for(self, m: int) -> list[int]:
         """The messages that exclude one and are issued before it."""
         return [it for it in self.world.excluding[m] if self.issued_before(it, m)]
+
+    def last_waited_for(self, m: int) -> int | None:
+        """The one of them that finishes last; of several the first."""
+        others = sorted(self.waited_for(m), key=lambda it: (-self.finish(it), it))
+        return others[0] if others else None
+
+    def ready(self, m: int) -> int:
+        """When a message waits for a worker alone."""
+        last = self.last_waited_for(m)
+        return max(self.issued(m), 0 if last is None else self.finish(last))
+
+    def waits(self, m: int) -> int:
+        return max(0, (self.starts[m] or 0) - self.issued(m))
+
+    def latency(self, m: int) -> int:
+        return max(0, self.finish(m) - self.issued(m))
 
     def runs(self, m: int, tick: int) -> bool:
         start = self.starts[m]
@@ -474,13 +506,17 @@ def ratio(part: int, whole: int, up: bool = False) -> str:
 def figures_of(plan: Plan) -> dict[str, object]:
     """The figures of a plan, whether or not it obeys."""
     world = plan.world
-    count, length, least = len(world.messages), plan.length(), world.least(plan.count)
-    latencies = sorted(max(0, plan.finish(m) - plan.issued(m)) for m in world.all)
+    length, least = plan.length(), world.least(plan.count)
     found: dict[str, object] = {"length": length, "speedup": ratio(world.total, length)}
     found["busy"] = ratio(world.total, plan.count * length) if plan.count else "-"
-    found |= {"least": least, "over": ratio(length, least, up=True)}
-    found["waits"] = sum(max(0, (plan.starts[m] or 0) - plan.issued(m)) for m in world.all)
-    found["mean"] = ratio(sum(latencies), count)
+    return found | {"least": least, "over": ratio(length, least, up=True)} | waiting_of(plan, world.all)
+
+
+def waiting_of(plan: Plan, messages: Sequence[int]) -> dict[str, object]:
+    """How long these messages wait, and their latencies."""
+    count = len(messages)
+    latencies = sorted(plan.latency(m) for m in messages)
+    found: dict[str, object] = {"waits": sum(plan.waits(m) for m in messages), "mean": ratio(sum(latencies), count)}
     for name, part in (("p50", 50), ("p99", 99)):
         found[name] = next((it for n, it in enumerate(latencies, 1) if 100 * n >= part * count), 0)
     return found | {"latency": max(latencies, default=0)}
@@ -492,6 +528,25 @@ def sweep_text(world: World, counts: list[int], rule: str) -> str:
         found = figures_of(plan_of(world, count, rule))
         rows.append(",".join([str(count or "-"), *(str(found[it]) for it in FIGURES)]))
     return lines(rows)
+
+
+def limits_text(world: World, counts: list[int], rule: str) -> str:
+    """What limits a trace. Of several that are the greatest the first is told."""
+    ends, works = world.ends(), world.works()
+    client = max(world.all, key=lambda m: ends[m], default=None)
+    used: Counter[Cell] = Counter()
+    for m in world.all:
+        used.update({cell: world.messages[m].cost for cell in world.footprint(m)})
+    cell = min(used, key=lambda it: (-used[it], world.place(it)), default=None)
+    affinity = max(range(len(works)), key=lambda a: works[a])
+    found: list[tuple[str, int | None, int, str]] = [("work", k, -(-world.total // k), "-") for k in counts]
+    found.append(("clients", None, max(ends, default=0), "-" if client is None else world.messages[client].client or "-"))
+    found.append(("data", None, used[cell] if cell else 0, "{}:{}".format(*cell) if cell else "-"))
+    found.append(("tree", None, works[affinity], world.tree.names[affinity] if world.messages else "-"))
+    found.append(("order", None, plan_of(world, None).length(), "-"))
+    found += [("plan", k, plan_of(world, k, rule).length(), "-") for k in counts]
+    rows = [f"{name},{workers or '-'},{length},{ratio(world.total, length)},{at}" for name, workers, length, at in found]
+    return lines(["limit,workers,length,speedup,at", *rows])
 
 
 def rank_text(worlds: list[World], workers: int, rule: str) -> str:
@@ -532,11 +587,8 @@ def waits_text(plan: Plan, by_names: bool) -> str:
     # For each pair the first message that waits so, whether it is for a worker, and the ticks of each.
     found: dict[tuple[tuple[str, ...], tuple[str, ...], bool], tuple[int, list[int]]] = {}
     for m in world.all:
-        issue, start = plan.issued(m), plan.starts[m] or 0
-        others = plan.waited_for(m)
-        last = min(others, key=lambda it: (-plan.finish(it), it), default=None)
-        ready = max(issue, plan.finish(last) if last is not None else 0)
-        for other, ticks in ((last, ready - issue), (None, start - ready)):
+        issue, ready, start = plan.issued(m), plan.ready(m), plan.starts[m] or 0
+        for other, ticks in ((plan.last_waited_for(m), ready - issue), (None, start - ready)):
             if ticks:
                 found.setdefault((words(m), words(other), other is None), (m, []))[1].append(ticks)
     rows = ["name,affinity,forname,foraffinity,messages,ticks,longest" if by_names else "affinity,for,messages,ticks,longest"]
@@ -545,25 +597,67 @@ def waits_text(plan: Plan, by_names: bool) -> str:
     return lines(rows)
 
 
-def where_text(world: World, by: str | None) -> str:
-    chain = plan_of(world, None).chain()
+def worst_text(plan: Plan, most: int) -> str:
+    """So many messages of the greatest latency, and for whom each waits till it is ready."""
+    world = plan.world
 
-    def cost(messages: Iterator[int]) -> int:
-        return sum(world.messages[m].cost for m in messages)
+    def words(m: int) -> list[object]:
+        return [m + 1, world.messages[m].name, world.tree.names[world.affinities[m]]]
+
+    rows = ["message,name,affinity,client,issue,ready,start,finish,latency,for,forname,foraffinity"]
+    for m in sorted(world.all, key=lambda it: (-plan.latency(it), it))[:most]:
+        issue, ready, last = plan.issued(m), plan.ready(m), plan.last_waited_for(m)
+        found = [*words(m), world.messages[m].client or "-", issue, ready, plan.starts[m], plan.finish(m), plan.latency(m)]
+        found += ["-", "-", "-"] if last is None or ready == issue else words(last)
+        rows.append(",".join(map(str, found)))
+    return lines(rows)
+
+
+def where_text(plan: Plan, by: str | None, with_figures: bool) -> str:
+    world, chain = plan.world, plan.chain()
+    tree, of = world.tree, world.affinities
+    more = ["running", *FIGURES[5:]] if with_figures else []
+
+    def row(words: list[object], found: list[int]) -> str:
+        """The words of a line, with the chain and the figures of its messages."""
+        words.append(world.cost(m for m in chain if m in found))
+        figures: dict[str, object] = {"running": ratio(world.cost(found), plan.length())} | waiting_of(plan, found)
+        return ",".join(map(str, [*words, *(figures[it] for it in more)]))
 
     if by is not None:
         keys = [(world.messages[m].client or "-") if by == "clients" else world.messages[m].name for m in world.all]
-        rows = [f"{by.removesuffix('s')},messages,cost,chain"]
-        for key, count in Counter(keys).items():
-            rows.append(f"{key},{count},{cost(m for m in world.all if keys[m] == key)},{cost(m for m in chain if keys[m] == key)}")
+        rows = [",".join([by.removesuffix("s"), "messages,cost,chain", *more])]
+        for key in dict.fromkeys(keys):
+            found = [m for m in world.all if keys[m] == key]
+            rows.append(row([key, len(found), world.cost(found)], found))
         return lines(rows)
-    tree, of = world.tree, world.affinities
-    rows = ["affinity,parent,messages,cost,below,chain"]
+    rows = [",".join(["affinity,parent,messages,cost,below,chain", *more])]
     for a, name in enumerate(tree.names):
         parent = tree.parents[a]
-        words = [name, "-" if parent is None else tree.names[parent], of.count(a), cost(m for m in world.all if of[m] == a)]
-        words += [cost(m for m in world.all if a in tree.way(of[m])), cost(m for m in chain if of[m] == a)]
-        rows.append(",".join(map(str, words)))
+        found = [m for m in world.all if of[m] == a]
+        below = world.cost(m for m in world.all if a in tree.way(of[m]))
+        rows.append(row([name, "-" if parent is None else tree.names[parent], len(found), world.cost(found), below], found))
+    return lines(rows)
+
+
+def why_text(world: World, by_names: bool) -> str:
+    """Why messages run above the owner of their first cell: for each kind the first of its messages, with the two cells."""
+    tree = world.tree
+    kinds: dict[tuple[str, ...], list[int]] = {}
+    cells: dict[int, tuple[Cell, Cell]] = {}
+    for m in world.all:
+        affinity, footprint = world.affinities[m], world.footprint(m)
+        first = footprint[0]
+        other = next(it for it in footprint if tree.lowest({tree.owner(*first), tree.owner(*it)}) == affinity)
+        if affinity != tree.owner(*first):
+            cells[m] = first, other
+            name = [world.messages[m].name] if by_names else []
+            kind = tree.names[affinity], *name, tree.names[tree.owner(*first)], tree.names[tree.owner(*other)]
+            kinds.setdefault(kind, []).append(m)
+    rows = [f"affinity,{'name,' if by_names else ''}first,second,messages,cost,message,cell,other"]
+    for kind, found in sorted(kinds.items(), key=lambda it: (-world.cost(it[1]), it[1][0])):
+        told = ["{}:{}".format(*cell) for cell in cells[found[0]]]
+        rows.append(",".join([*kind, str(len(found)), str(world.cost(found)), str(found[0] + 1), *told]))
     return lines(rows)
 
 
@@ -767,7 +861,7 @@ def words() -> ArgumentParser:
     top = ArgumentParser(prog="clients.py", description="Plans traces with clients plainly, for tests.")
     parts = top.add_subparsers(dest="command", required=True)
     files = {"rank": ["trace"], "compare": ["hier", "other", "trace"]}
-    for name in ("assign", "needs", "plan", "check", "replay", "compare", "sweep", "rate", "rank", "waits", "where", "draw"):
+    for name in ("assign", "needs", "plan", "check", "replay", "compare", "sweep", "limits", "rate", "rank", "waits", "where", "why", "draw"):
         part = parts.add_parser(name)
         for it in files.get(name, ["hier", "trace"]):
             part.add_argument(it)
@@ -779,17 +873,20 @@ def words() -> ArgumentParser:
             part.add_argument("--as", dest="form", choices=["events"], required=True)
             part.add_argument("--from", dest="first", type=int, default=0)
             part.add_argument("--to", dest="end", type=int)
-        if name in ("plan", "waits", "rank", "compare", "replay"):
+        if name in ("plan", "waits", "where", "rank", "compare", "replay"):
             part.add_argument("--workers", "-k", type=int, required=name in ("rank", "compare"))
-        if name == "sweep":
-            part.add_argument("--workers", "-k", default=SWEPT)
-        if name in ("plan", "sweep", "waits", "rank"):
+        if name in ("sweep", "limits"):
+            part.add_argument("--workers", "-k", default=SWEPT if name == "sweep" else "")
+        if name in ("plan", "sweep", "limits", "waits", "where", "rank"):
             part.add_argument("--rule", choices=["arrival", "longest"], default="arrival")
-        if name in ("waits", "where"):
+        if name in ("waits", "where", "why"):
             either = part.add_mutually_exclusive_group()
             either.add_argument("--names", dest="by", action="store_const", const="names")
         if name == "where":
             either.add_argument("--clients", dest="by", action="store_const", const="clients")
+            part.add_argument("--figures", action="store_true")
+        if name == "waits":
+            either.add_argument("--worst", type=int)
     return top
 
 
@@ -813,18 +910,25 @@ def answer(asked: Namespace) -> tuple[str, int]:
             return events_text(given, asked.first, asked.end), 0
         told, status = verdict(given)
         return (told + "\n", status) if command == "check" else rate_text(given)
+    counts = [int(it) for it in asked.workers.split(",") if it] if command in ("sweep", "limits") else []
     texts: dict[str, Callable[[], str]] = {
         "assign": lambda: assign_text(world),
         "needs": lambda: needs_text(world),
         "plan": lambda: plan_text(plan_of(world, asked.workers, asked.rule)),
         "compare": lambda: compare_text(worlds, asked.workers),
-        "sweep": lambda: sweep_text(world, [int(it) for it in asked.workers.split(",")], asked.rule),
+        "sweep": lambda: sweep_text(world, counts, asked.rule),
+        "limits": lambda: limits_text(world, counts, asked.rule),
         "rank": lambda: rank_text(worlds, asked.workers, asked.rule),
-        "waits": lambda: waits_text(plan_of(world, asked.workers, asked.rule), asked.by is not None),
-        "where": lambda: where_text(world, asked.by),
+        "waits": lambda: told_waits(plan_of(world, asked.workers, asked.rule), asked),
+        "where": lambda: where_text(plan_of(world, asked.workers, asked.rule), asked.by, asked.figures),
+        "why": lambda: why_text(world, asked.by is not None),
         "replay": lambda: replay_text(world),
     }
     return texts[command](), 0
+
+
+def told_waits(plan: Plan, asked: Namespace) -> str:
+    return worst_text(plan, asked.worst) if asked.worst else waits_text(plan, asked.by is not None)
 
 
 def main(given: list[str]) -> int:

@@ -1,5 +1,5 @@
 -- Of the same files what is asked has one exit status and one text.
-use Rattle.std.proofs.Common.{◌∙◌, ℕ, List, None, ap, drop, sym}
+use Rattle.std.proofs.Common.{◌∙◌, ℕ, List, [], None, ap, drop, sym}
 use Rattle.std.specs.Prelude.{option_map, slice_get, unwrap_or}
 use Rattle.waff_io.specs.Split.{after_mark, before_mark}
 use Rattle.waff_figures.specs.Sweep.{sweep_workers}
@@ -8,12 +8,16 @@ use Rattle.waff_tool.specs.CheckText.{status_after, verdict_text}
 use Rattle.waff_tool.specs.Explanations.{status_explained}
 use Rattle.waff_tool.proofs.CheckUniqueness.{check_text_is_one, draw_text_is_one, replay_text_is_one}
 use Rattle.waff_tool.proofs.ExplainedLaws.{explained_is_one}
-use Rattle.waff_tool.proofs.FigureUniqueness.{sweep_text_is_one, where_text_is_one}
+use Rattle.waff_tool.proofs.FigureUniqueness.{sweep_text_is_one}
+use Rattle.waff_tool.proofs.LimitsTexts.{limits_text_is_one}
 use Rattle.waff_tool.proofs.NeedsTexts.{needs_text_is_one}
 use Rattle.waff_tool.proofs.RankLaws.{rank_text_is_one}
 use Rattle.waff_tool.proofs.RateLaws.{rate_text_is_one}
 use Rattle.waff_tool.proofs.TextUniqueness.{assign_text_is_one, compare_text_is_one, plan_text_is_one}
 use Rattle.waff_tool.proofs.WaitsTexts.{waits_text_is_one}
+use Rattle.waff_tool.proofs.WhereTexts.{where_text_is_one}
+use Rattle.waff_tool.proofs.WhyTexts.{why_text_is_one}
+use Rattle.waff_tool.proofs.WorstTexts.{worst_text_is_one}
 use Rattle.waff_cli.specs.declared.words.Asked.{Asked}
 use Rattle.waff_cli.specs.declared.words.Asked.TheVariants as asked
 use Rattle.waff_answer.specs.Answers.{first, picture_for, second, third}
@@ -47,10 +51,19 @@ answer_is_one (asked.Sweep given rule) files status more text other p q = (
   sweep_text_is_one rule (first files) (second files)
       (unwrap_or (option_map (λ numbers. numbers.items) given) sweep_workers) text other p.1 q.1,
 )
-answer_is_one (asked.Where label) files status more text other p q =
-    (p.0 ∙ sym q.0, where_text_is_one (first files) (second files) label text other p.1 q.1)
+answer_is_one (asked.Limits given rule) files status more text other p q = (
+  p.0 ∙ sym q.0,
+  limits_text_is_one rule (first files) (second files)
+      (unwrap_or (option_map (λ numbers. numbers.items) given) []) text other p.1 q.1,
+)
+answer_is_one (asked.Where workers rule label columns) files status more text other p q =
+    (p.0 ∙ sym q.0, where_text_is_one rule (first files) (second files) workers label columns text other p.1 q.1)
 answer_is_one (asked.Waits workers rule grouping) files status more text other p q =
     (p.0 ∙ sym q.0, waits_text_is_one rule (first files) (second files) workers grouping text other p.1 q.1)
+answer_is_one (asked.Worst workers rule most) files status more text other p q =
+    (p.0 ∙ sym q.0, worst_text_is_one rule (first files) (second files) workers most text other p.1 q.1)
+answer_is_one (asked.Why grouping) files status more text other p q =
+    (p.0 ∙ sym q.0, why_text_is_one (first files) (second files) grouping text other p.1 q.1)
 answer_is_one asked.Needs files status more text other p q =
     (p.0 ∙ sym q.0, needs_text_is_one (first files) (second files) text other p.1 q.1)
 answer_is_one (asked.Draw drawing part) files status more text other p q =

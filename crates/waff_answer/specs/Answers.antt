@@ -1,6 +1,6 @@
 -- What the program answers: which text, and with which exit status, answers what is asked of files.
 use Rattle.std.specs.Global.{Global}
-use Rattle.std.specs.Prelude.{◌≡◌, ℕ, List, Vec, drop, map, option_map, slice_get, unwrap_or}
+use Rattle.std.specs.Prelude.{◌≡◌, ℕ, List, [], Vec, drop, map, option_map, slice_get, unwrap_or}
 use Rattle.waff_io.specs.Split.{after_mark, before_mark}
 use Rattle.waff_check.specs.declared.verdict.Verdict.{Verdict}
 use Rattle.waff_figures.specs.Sweep.{sweep_workers}
@@ -11,13 +11,17 @@ use Rattle.waff_tool.specs.CheckText.{IsCheckText, RefusesCheck, status_after, v
 use Rattle.waff_tool.specs.Comparison.{IsCompareText, RefusesComparison}
 use Rattle.waff_tool.specs.DrawText.{IsDrawText}
 use Rattle.waff_tool.specs.Explanations.{IsExplanation, RefusesWork, status_explained}
-use Rattle.waff_tool.specs.Figures.{IsSweepText, IsWhereText}
+use Rattle.waff_tool.specs.Figures.{IsSweepText}
+use Rattle.waff_tool.specs.LimitsText.{IsLimitsText}
 use Rattle.waff_tool.specs.NeedsText.{IsNeedsText}
 use Rattle.waff_tool.specs.PlanText.{IsPlanText, IsPlanTextFor}
 use Rattle.waff_tool.specs.Ranks.{IsRankText, RefusesRank, file_at}
 use Rattle.waff_tool.specs.Rate.{IsRateText}
 use Rattle.waff_tool.specs.ReplayText.{IsReplayText, RefusesReplay}
 use Rattle.waff_tool.specs.WaitsText.{IsWaitsText}
+use Rattle.waff_tool.specs.WhereText.{IsWhereText}
+use Rattle.waff_tool.specs.WhyText.{IsWhyText}
+use Rattle.waff_tool.specs.WorstText.{IsWorstText}
 use Rattle.waff_tool.specs.declared.draws.Picture.{Picture}
 use Rattle.waff_tool.specs.declared.draws.Picture.TheVariants as picture
 use Rattle.waff_tool.specs.declared.explains.Explained.{Explained}
@@ -66,10 +70,17 @@ Answers asked.Rate files status text =
 Answers (asked.Sweep given rule) files status text =
     (status ≡ 0) × IsSweepText rule (first files) (second files)
     (unwrap_or (option_map (λ numbers. numbers.items) given) sweep_workers) text
-Answers (asked.Where label) files status text =
-    (status ≡ 0) × IsWhereText (first files) (second files) label text
+Answers (asked.Limits given rule) files status text =
+    (status ≡ 0) × IsLimitsText rule (first files) (second files)
+    (unwrap_or (option_map (λ numbers. numbers.items) given) []) text
+Answers (asked.Where workers rule label columns) files status text =
+    (status ≡ 0) × IsWhereText rule (first files) (second files) workers label columns text
 Answers (asked.Waits workers rule grouping) files status text =
     (status ≡ 0) × IsWaitsText rule (first files) (second files) workers grouping text
+Answers (asked.Worst workers rule most) files status text =
+    (status ≡ 0) × IsWorstText rule (first files) (second files) workers most text
+Answers (asked.Why grouping) files status text =
+    (status ≡ 0) × IsWhyText (first files) (second files) grouping text
 Answers asked.Needs files status text =
     (status ≡ 0) × IsNeedsText (first files) (second files) text
 Answers (asked.Draw drawing part) files status text =
@@ -86,19 +97,13 @@ Answers asked.Explain files status text =
 abbrev pub RefusesAsked : Asked → List (List ℕ) → ToolError → Type 0
 RefusesAsked asked.PlanOfInput files error =
     Refuses (before_mark (first files)) (after_mark (first files)) error
-RefusesAsked asked.Assign files error = Refuses (first files) (second files) error
-RefusesAsked (asked.Plan workers rule) files error = Refuses (first files) (second files) error
 RefusesAsked asked.Check files error = RefusesCheck (first files) (second files) (third files) error
+RefusesAsked asked.Rate files error = RefusesCheck (first files) (second files) (third files) error
+RefusesAsked (asked.Draw drawing part) files error =
+    RefusesCheck (first files) (second files) (third files) error
 RefusesAsked (asked.Replay workers) files error = RefusesReplay (first files) (second files) error
 RefusesAsked (asked.Compare k) files error =
     RefusesComparison (first files) (second files) (third files) error
-RefusesAsked asked.Rate files error = RefusesCheck (first files) (second files) (third files) error
-RefusesAsked (asked.Sweep given rule) files error = Refuses (first files) (second files) error
-RefusesAsked (asked.Where label) files error = Refuses (first files) (second files) error
-RefusesAsked (asked.Waits workers rule grouping) files error =
-    Refuses (first files) (second files) error
-RefusesAsked asked.Needs files error = Refuses (first files) (second files) error
-RefusesAsked (asked.Draw drawing part) files error =
-    RefusesCheck (first files) (second files) (third files) error
 RefusesAsked (asked.Rank k rule) files error = RefusesRank (drop 1 files) (first files) error
 RefusesAsked asked.Explain files error = RefusesWork error
+RefusesAsked _ files error = Refuses (first files) (second files) error

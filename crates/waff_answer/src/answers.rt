@@ -18,9 +18,9 @@ use waff_check::Verdict;
 use waff_cli::{Asked, Drawing, Question, thread_count};
 use waff_tool::{
     Explained, MAX_RANKED, Part, Picture, Rule, ToolError, assign_text_by_threads, check_text,
-    compare_text_by_threads, draw_text, explain_text, explained_status, needs_text, plan_text_by,
-    rank_text, rate_text, replay_text, split_input, sweep_text, sweep_workers, verdict_status,
-    waits_text, where_text,
+    compare_text_by_threads, draw_text, explain_text, explained_status, limits_text, needs_text,
+    plan_text_by, rank_text, rate_text, replay_text, split_input, sweep_text, sweep_workers,
+    verdict_status, waits_text, where_text, why_text, worst_text,
 };
 
 /// Writes the answer to the question, and gives the exit status.
@@ -58,13 +58,25 @@ pub fn print<R: Threads + Wait + Sync, W: Write>(
         }
         Asked::Rate => judged(rate_text(rt, alloc, first, second, third, out)),
         Asked::Sweep(given, rule) => {
-            let workers = swept(given);
+            let workers = numbers_or(given, sweep_workers());
             printed(sweep_text(rt, alloc, first, second, workers, *rule, out))
         }
-        Asked::Where(label) => printed(where_text(rt, alloc, first, second, *label, out)),
+        Asked::Limits(given, rule) => {
+            let workers = numbers_or(given, &[]);
+            printed(limits_text(rt, alloc, first, second, workers, *rule, out))
+        }
+        Asked::Where(workers, rule, label, columns) => {
+            printed(where_text(
+                rt, alloc, first, second, *workers, *rule, *label, *columns, out,
+            ))
+        }
         Asked::Waits(workers, rule, grouping) => {
             printed(waits_text(rt, alloc, first, second, *workers, *rule, *grouping, out))
         }
+        Asked::Worst(workers, rule, most) => {
+            printed(worst_text(rt, alloc, first, second, *workers, *rule, *most, out))
+        }
+        Asked::Why(grouping) => printed(why_text(rt, alloc, first, second, *grouping, out)),
         Asked::Needs => printed(needs_text(rt, alloc, first, second, out)),
         Asked::Draw(drawing, part) => {
             let picture = picture_of(*drawing);
@@ -136,16 +148,17 @@ fn file_given(files: &[Vec<u8>], at: usize) -> Option<&[u8]>
     }
 }
 
-/// The numbers of workers of a sweep that are given, or the usual ones.
-fn swept(given: &Option<Vec<u32>>) -> &[u32]
-    requires { IfSome given.now (λ numbers. All IsWorkers numbers.items) }
+/// The numbers of workers that are given, or these.
+fn numbers_or<'a>(given: &'a Option<Vec<u32>>, usual: &'a [u32]) -> &'a [u32]
+    requires given { IfSome given.now (λ numbers. All IsWorkers numbers.items) }
+    requires usual { All IsWorkers usual.now }
     ensures workers { All IsWorkers result.now }
     ensures numbers { result.now
-        ≡ unwrap_or (option_map (λ numbers. numbers.items) given.now) sweep_workers }
+        ≡ unwrap_or (option_map (λ numbers. numbers.items) given.now) usual.now }
 {
     match given {
         Some(numbers) => numbers.as_slice(),
-        None => sweep_workers(),
+        None => usual,
     }
 }
 

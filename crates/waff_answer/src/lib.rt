@@ -3,7 +3,7 @@
 //! - `answers`: which command answers what is asked, of which files; what is written of it.
 //! - `ending`: the answer on the output, or the line of an error on the error stream, and the exit
 //!   status.
-//! - `unique`: what is asked of files has one answer.
+//! - `unique`: what is asked of files has one answer, or is refused for one error.
 //!
 //! The words of a question and its files are read by `waff_cli`, the texts are those of `waff_tool`.
 //! What is answered, and how the program ends, one clause says: that of `answer`. `end` is that for what
@@ -15,4 +15,4 @@ mod ending;
 mod unique;
 
 pub use ending::{answer, end};
-pub use unique::answer_is_one;
+pub use unique::{answer_is_one, answered_is_not_refused, asked_refusal_is_one};

@@ -7,8 +7,8 @@ mod ShiftSteps
 mod PlaceLaws
 mod OverlapLaws
 mod LinkLaws
-mod ServedLaws
-mod ServesLaws
+pub mod ServedLaws
+pub mod ServesLaws
 mod ShortLaws
 pub mod PromiseLaws
 pub mod Uniqueness

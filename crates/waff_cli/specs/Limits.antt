@@ -8,6 +8,9 @@ pub within_limits-prop : (asked : Asked) → IsProp (IsWithinLimits asked)
 within_limits-prop (asked.Plan workers rule) = Prim.hlevel props
 within_limits-prop (asked.Waits workers rule grouping) = Prim.hlevel props
 within_limits-prop (asked.Sweep given rule) = Prim.hlevel props
+within_limits-prop (asked.Limits given rule) = Prim.hlevel props
+within_limits-prop (asked.Where workers rule label columns) = Prim.hlevel props
+within_limits-prop (asked.Worst workers rule most) = Prim.hlevel props
 within_limits-prop (asked.Compare k) = Prim.hlevel props
 within_limits-prop (asked.Rank k rule) = Prim.hlevel props
 within_limits-prop (asked.Replay workers) = Prim.hlevel props

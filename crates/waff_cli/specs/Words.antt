@@ -7,6 +7,8 @@ use Rattle.std.specs.Str.Parse.{IsNumeral, digits_value, without_leading_plus}
 use Rattle.clap.specs.Words.{first_value, matched_of, one_text, raw_values}
 use Rattle.clap.specs.declared.parser.matches.Found.{Found}
 use Rattle.waff_draw.specs.declared.parts.Part.{Part}
+use Rattle.waff_figures.specs.declared.grouping.Columns.{Columns}
+use Rattle.waff_figures.specs.declared.grouping.Columns.TheVariants as columns
 use Rattle.waff_figures.specs.declared.grouping.Grouping.{Grouping}
 use Rattle.waff_figures.specs.declared.grouping.Grouping.TheVariants as grouping
 use Rattle.waff_figures.specs.declared.grouping.Label.{Label}
@@ -40,6 +42,11 @@ label_for false false = None
 abbrev pub grouping_for : Bool → Grouping
 grouping_for true = grouping.Name
 grouping_for false = grouping.Affinity
+
+-- which columns a line has, by whether `--figures` is given
+abbrev pub columns_for : Bool → Columns
+columns_for true = columns.Figures
+columns_for false = columns.Costs
 
 -- the number that a word spells in decimal digits, behind a plus or not
 abbrev pub number_of : List ℕ → ℕ
@@ -94,6 +101,10 @@ abbrev pub IsGroupingGiven : Found → Grouping → Type 0
 IsGroupingGiven found grouping =
     (names : Bool) × IsFlag found (codes "names") names × (grouping ≡ grouping_for names)
 
+abbrev pub IsColumnsGiven : Found → Columns → Type 0
+IsColumnsGiven found columns =
+    (figures : Bool) × IsFlag found (codes "figures") figures × (columns ≡ columns_for figures)
+
 -- the words of this command ask for this
 abbrev pub IsAsked : List ℕ → Found → Asked → Type 0
 IsAsked command found asked.PlanOfInput = command ≡ []
@@ -108,10 +119,18 @@ IsAsked command found (asked.Compare k) =
 IsAsked command found asked.Rate = command ≡ codes "rate"
 IsAsked command found (asked.Sweep given rule) =
     (command ≡ codes "sweep") × IsSweepGiven found given × IsRuleGiven found rule
-IsAsked command found (asked.Where label) = (command ≡ codes "where") × IsLabelGiven found label
+IsAsked command found (asked.Limits given rule) =
+    (command ≡ codes "limits") × IsSweepGiven found given × IsRuleGiven found rule
+IsAsked command found (asked.Where workers rule label columns) =
+    (command ≡ codes "where") × IsWorkersGiven found workers × IsRuleGiven found rule
+    × IsLabelGiven found label × IsColumnsGiven found columns
 IsAsked command found (asked.Waits workers rule grouping) =
     (command ≡ codes "waits") × IsWorkersGiven found workers × IsRuleGiven found rule
-    × IsGroupingGiven found grouping
+    × IsNumberGiven 32 found (codes "worst") None × IsGroupingGiven found grouping
+IsAsked command found (asked.Worst workers rule most) =
+    (command ≡ codes "waits") × IsWorkersGiven found workers × IsRuleGiven found rule
+    × IsNumberGiven 32 found (codes "worst") (Some most) × IsGroupingGiven found grouping.Affinity
+IsAsked command found (asked.Why grouping) = (command ≡ codes "why") × IsGroupingGiven found grouping
 IsAsked command found asked.Needs = command ≡ codes "needs"
 IsAsked command found (asked.Draw drawing part) =
     (command ≡ codes "draw") × IsDrawingGiven found drawing × IsPartGiven found part

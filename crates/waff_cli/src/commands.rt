@@ -36,6 +36,10 @@ pub enum Word {
     Names(&'static str),
     /// `--clients`.
     Clients,
+    /// `--figures`.
+    Figures,
+    /// `--worst`.
+    Worst,
     /// `--as`.
     Picture,
     /// `--from`.
@@ -49,6 +53,9 @@ pub static FILE_WORDS: [&str; 5] = ["HIER", "OTHER", "TRACE", "HIERS", "PLAN"];
 
 /// Numbers of workers of a sweep.
 pub const MAX_SWEPT: usize = 64;
+
+/// Messages of the greatest latency: no trace has more messages.
+pub const MAX_WORST: u32 = 1_048_576;
 
 /// The rules by which a free worker takes a message.
 pub static RULES: [&str; 2] = ["arrival", "longest"];
@@ -149,13 +156,26 @@ pub static COMMANDS: &[CommandWords] = &[
         ],
     },
     CommandWords {
+        name: "limits",
+        about: "Prints what limits a trace: workers, clients, data, tree or order",
+        words: &[
+            Word::File(HIERARCHY),
+            Word::File(TRACE),
+            Word::SweepWorkers,
+            Word::Rule,
+        ],
+    },
+    CommandWords {
         name: "where",
         about: "Prints where the time goes, by affinity, by name or by client",
         words: &[
             Word::File(HIERARCHY),
             Word::File(TRACE),
+            Word::PlanWorkers(false),
+            Word::Rule,
             Word::Names("A line for each name of messages"),
             Word::Clients,
+            Word::Figures,
         ],
     },
     CommandWords {
@@ -167,6 +187,16 @@ pub static COMMANDS: &[CommandWords] = &[
             Word::PlanWorkers(false),
             Word::Rule,
             Word::Names("By the names of messages too"),
+            Word::Worst,
+        ],
+    },
+    CommandWords {
+        name: "why",
+        about: "Prints why messages run above the owner of their first cell",
+        words: &[
+            Word::File(HIERARCHY),
+            Word::File(TRACE),
+            Word::Names("A line for each name of messages too"),
         ],
     },
     CommandWords {

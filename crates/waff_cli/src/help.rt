@@ -11,8 +11,10 @@ pub fn of(command: &str) -> &'static str {
         "explain" => EXPLAIN,
         "rate" => RATE,
         "sweep" => SWEEP,
+        "limits" => LIMITS,
         "where" => WHERE,
         "waits" => WAITS,
+        "why" => WHY,
         "needs" => NEEDS,
         "draw" => DRAW,
         "replay" => REPLAY,
@@ -238,6 +240,30 @@ that exclude each other the first one of the trace runs first. With clients they
 compare with plans in any order; waits and latencies count from the issue."
 );
 
+/// What the long help of `waff limits` ends with.
+const LIMITS: &str = with_statuses!(
+    "\
+Example: waff limits hier.toml trace.csv --workers 4,8
+
+A line for each limit, work and plan for each number of workers:
+  work     the total cost / K, rounded up
+  clients  the last finish where no message waits but for its own client
+  data     the greatest cost of messages that touch a common cell
+  tree     the greatest cost of messages at or above a common affinity
+  order    the length of the plan without a limit on workers
+  plan     the length of the plan for K workers
+Its columns:
+  limit    one of these names
+  workers  K, or -
+  length   in ticks
+  speedup  the total / the length
+  at       the client, the cell or the affinity that limits so; - for none
+Whatever the order of service, no plan is shorter than work, clients, data and
+tree, and the data limit so under every tree of these spaces. In arrival order
+none is shorter than order; where the trace has clients none that serves the
+messages as the plan without a limit on workers does."
+);
+
 /// What the long help of `waff where` ends with.
 const WHERE: &str = with_statuses!(
     "\
@@ -250,14 +276,20 @@ A line for each affinity:
   cost      their cost
   below     the cost of those in it or below it
   chain     the cost of those in it on the chain of the plan without a limit on
-            workers
+            workers, or of that for K workers
 With --names a line for each name of messages:
   name      the name
   messages  how many have it
   cost      their cost
   chain     the cost of those on that chain
 With --clients a line for each client, with the same columns:
-  client    the client; - for messages of none"
+  client    the client; - for messages of none
+With --figures six columns more, of that plan and the messages of the line:
+  running   their cost / the length: how many run at once in the mean, where
+            busy of waff sweep is a share of the workers
+  waits     the ticks from their issues to their starts
+  mean, p50, p99, latency  of their latencies, as in waff sweep
+Messages below an affinity are in lines of their own."
 );
 
 /// What the long help of `waff waits` ends with.
@@ -277,7 +309,34 @@ With --names a line for each two names and their affinities:
   affinity     theirs
   forname      that of the messages they wait for; - for a worker
   foraffinity  that of those; - for a worker
-  messages, ticks, longest  as above, of these messages"
+  messages, ticks, longest  as above, of these messages
+With --worst a line for each of N messages, that of the greatest latency first:
+  message, name, affinity, client  its own; - for no client
+  issue    the tick at which it is issued, without clients its release
+  ready    the tick from which it waits for a worker alone
+  start, finish, latency  of the plan; the latency is the finish - the issue
+  for, forname, foraffinity  the message for which it waits till it is ready; -
+           for none"
+);
+
+/// What the long help of `waff why` ends with.
+const WHY: &str = with_statuses!(
+    "\
+Example: waff why hier.toml trace.csv
+
+A line for all messages of which the same is true, if they run above the owner
+of their first cell; the greatest cost first:
+  affinity  in which they run
+  first     the owner of their first cell
+  second    the owner of the first cell that lifts them so high
+  messages  how many they are
+  cost      what they cost
+  message   the first of them, by its number
+  cell      the first cell of that message
+  other     its cell of the second owner
+With --names a line for each name too, which stands behind the affinity:
+  name      that of the messages
+Cells are in the order of their spaces in the hierarchy, then of their indices."
 );
 
 /// What the long help of `waff needs` ends with.

@@ -1,5 +1,7 @@
 //! The parser of the table of commands.
-use crate::commands::{COMMANDS, CommandWords, FileWord, MAX_SWEPT, PICTURES, RULES, Word};
+use crate::commands::{
+    COMMANDS, CommandWords, FileWord, MAX_SWEPT, MAX_WORST, PICTURES, RULES, Word,
+};
 use crate::help;
 use crate::version::{LONG_VERSION, VERSION};
 use clap::{Arg, ArgAction, Command, value_parser};
@@ -87,6 +89,8 @@ fn arg<'a>(alloc: Global, word: Word) -> Arg<'a> {
         Word::Rule => rule(alloc),
         Word::Names(help) => flag(alloc, "names", help),
         Word::Clients => flag(alloc, "clients", "A line for each client; not with --names"),
+        Word::Figures => flag(alloc, "figures", "With waits and latencies of each line"),
+        Word::Worst => worst(alloc),
         Word::Picture => picture(alloc),
         Word::From => tick(alloc, "from", "The tick at which the part begins").default_value("0"),
         Word::To => tick(
@@ -125,6 +129,17 @@ fn workers<'a>(alloc: Global, most: u32, value_name: &'static str, help: &'stati
     option(alloc, "workers", help)
         .value_name(value_name)
         .value_parser(value_parser!(u32).range(1..=i64::from(most)))
+}
+
+/// How many messages of the greatest latency are told.
+fn worst<'a>(alloc: Global) -> Arg<'a> {
+    option(
+        alloc,
+        "worst",
+        "So many messages of the greatest latency; not with --names",
+    )
+    .value_name("N")
+    .value_parser(value_parser!(u32).range(1..=i64::from(MAX_WORST)))
 }
 
 /// Which of the messages that are ready start first.

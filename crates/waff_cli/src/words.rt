@@ -1,5 +1,5 @@
 //! The words of the command line, read.
-ghost use Rattle.std.specs.Prelude.{◌≡◌, ◌≤◌, All, IfOk, IfSome, Some, length, map};
+ghost use Rattle.std.specs.Prelude.{◌≡◌, ◌≤◌, All, IfOk, IfSome, Some, codes, length, map};
 ghost use Rattle.waff_plan.specs.Bound.{IsWorkers};
 ghost use Rattle.waff_core.specs.Seats.{IsSeats};
 ghost use Rattle.waff_cli.specs.Limits.{within_limits-prop};
@@ -7,11 +7,11 @@ ghost use Rattle.clap.specs.Words.{found_of};
 ghost use Rattle.waff_cli.specs.Requests as requests;
 ghost use Rattle.waff_cli.specs.Requests.{IsWithinLimits, TakesFiles};
 ghost use Rattle.waff_cli.specs.Words as asks;
-ghost use Rattle.waff_cli.specs.Words.{IsAsked, IsDrawingGiven, IsGroupingGiven, IsLabelGiven};
-ghost use Rattle.waff_cli.specs.Words.{IsNumberGiven, IsPartGiven, IsRuleGiven, IsSweepGiven};
+ghost use Rattle.waff_cli.specs.Words.{IsAsked, IsColumnsGiven, IsDrawingGiven, IsGroupingGiven};
+ghost use Rattle.waff_cli.specs.Words.{IsLabelGiven, IsNumberGiven, IsPartGiven, IsRuleGiven, IsSweepGiven};
 ghost use Rattle.waff_cli.specs.Words.{IsWorkersGiven};
 
-use crate::commands::{FILE_WORDS, MAX_SWEPT};
+use crate::commands::{FILE_WORDS, MAX_SWEPT, MAX_WORST};
 use crate::files::INPUT;
 use crate::parser::parser;
 use crate::refusal::Refusal;
@@ -19,7 +19,7 @@ use clap::ArgMatches;
 use std::alloc::{AllocError, Global};
 use waff_core::limits::MAX_SEATS;
 use waff_draw::Part;
-use waff_figures::{Grouping, Label};
+use waff_figures::{Columns, Grouping, Label};
 use waff_inputs::MAX_RANKED;
 use waff_list::Rule;
 use waff_model::limits::MAX_WORKERS;
@@ -54,11 +54,18 @@ pub enum Asked {
     /// How long the trace takes by this rule, for each of these numbers of workers, or for the usual
     /// ones.
     Sweep(Option<Vec<u32>>, Rule),
-    /// Where the time goes, by the names or the clients of messages, or without either by affinity.
-    Where(Option<Label>),
+    /// What limits the trace, also for each of these numbers of workers, by this rule.
+    Limits(Option<Vec<u32>>, Rule),
+    /// Where the time goes, in the plan for this number of workers by this rule or in that without a
+    /// limit, by the names or the clients of messages, or without either by affinity.
+    Where(Option<u32>, Rule, Option<Label>, Columns),
     /// Who waits for whom, in the plan for this number of workers by this rule or in that without a
     /// limit, by affinity or by the names of messages too.
     Waits(Option<u32>, Rule, Grouping),
+    /// So many messages of the greatest latency, in one of these plans.
+    Worst(Option<u32>, Rule, u32),
+    /// Why messages run above the owner of their first cell, by their names too or not.
+    Why(Grouping),
     /// For which earlier messages each message has to wait.
     Needs,
     /// This part of the plan drawn as this picture.
@@ -169,7 +176,7 @@ fn asked_of(
         "explain" => Ok(Asked::Explain),
         "needs" => Ok(Asked::Needs),
         "rate" => Ok(Asked::Rate),
-        "where" => Ok(Asked::Where(label(rt, matches)?)),
+        "why" => Ok(Asked::Why(grouping(matches))),
         "replay" => Ok(Asked::Replay(workers(matches, MAX_SEATS)?)),
         "compare" => Ok(Asked::Compare(wanted_workers(matches)?)),
         "draw" => Ok(Asked::Draw(drawn_as(matches)?, part_of(rt, matches)?)),
@@ -191,12 +198,34 @@ fn asked_by_rule(
     match command {
         "plan" => Ok(Asked::Plan(workers(matches, MAX_WORKERS)?, rule)),
         "sweep" => Ok(Asked::Sweep(swept_workers(rt, alloc, matches)?, rule)),
-        "waits" => {
+        "limits" => Ok(Asked::Limits(swept_workers(rt, alloc, matches)?, rule)),
+        "where" => {
             let workers = workers(matches, MAX_WORKERS)?;
-            Ok(Asked::Waits(workers, rule, grouping(matches)))
+            let label = label(rt, matches)?;
+            Ok(Asked::Where(workers, rule, label, columns(matches)))
         }
+        "waits" => waits(rt, matches, rule),
         "rank" => Ok(Asked::Rank(wanted_workers(matches)?, rule)),
         _ => Err(Refusal::NoWords),
+    }
+}
+
+/// What the words of `waits` ask for: who waits for whom, or the messages of the greatest latency.
+fn waits(rt: &impl Eprint, matches: &ArgMatches<'_>, rule: Rule) -> Result<Asked, Refusal>
+    requires { IsRuleGiven (found_of matches.now) rule }
+    ensures limits { IfOk result IsWithinLimits }
+    ensures asked { IfOk result (IsAsked (codes "waits") (found_of matches.now)) }
+{
+    let workers = workers(matches, MAX_WORKERS)?;
+    let grouping = grouping(matches);
+    match number_within(matches, "worst", MAX_WORST)? {
+        None => Ok(Asked::Waits(workers, rule, grouping)),
+        Some(most) => match grouping {
+            Grouping::Affinity => Ok(Asked::Worst(workers, rule, most)),
+            Grouping::Name => {
+                Err(Refusal::because(rt, "'--names' cannot be used with '--worst'"))
+            }
+        },
     }
 }
 
@@ -236,7 +265,16 @@ fn workers(matches: &ArgMatches<'_>, most: u32) -> Result<Option<u32>, Refusal>
     ensures some { IfOk result (λ number. IfSome number (λ k. 1 ≤ k)) }
     ensures few { IfOk result (λ number. IfSome number (λ k. k ≤ most)) }
 {
-    match number_given(matches, "workers") {
+    number_within(matches, "workers", most)
+}
+
+/// The number of this option, where it is given; it is 1 at least and this at most.
+fn number_within(matches: &ArgMatches<'_>, id: &str, most: u32) -> Result<Option<u32>, Refusal>
+    ensures given { IfOk result (IsNumberGiven 32 (found_of matches.now) id.now) }
+    ensures some { IfOk result (λ number. IfSome number (λ k. 1 ≤ k)) }
+    ensures few { IfOk result (λ number. IfSome number (λ k. k ≤ most)) }
+{
+    match number_given(matches, id) {
         Some(k) if k == 0 || k > most => Err(Refusal::NoWords),
         number => Ok(number),
     }
@@ -365,6 +403,24 @@ fn grouping_for(names: bool) -> Grouping
         Grouping::Name
     } else {
         Grouping::Affinity
+    }
+}
+
+/// Which columns a line has.
+fn columns(matches: &ArgMatches<'_>) -> Columns
+    ensures { IsColumnsGiven (found_of matches.now) result }
+{
+    columns_for(matches.get_flag("figures"))
+}
+
+/// Which columns it has, by whether `--figures` is given.
+fn columns_for(figures: bool) -> Columns
+    ensures { result ≡ asks.columns_for figures }
+{
+    if figures {
+        Columns::Figures
+    } else {
+        Columns::Costs
     }
 }
 

@@ -17,12 +17,12 @@ module _ (work : Work) (follows : FollowsEarlier work) (start other : ℕ → �
   at : (m : ℕ) → 1 ≤ m → m < 1 + work.count → start m ≡ other m
   at m from to = same m (record { from = from; to = omega (arith, to) })
 
-  issued_same : (m : ℕ) → issue_of work start m ≡ issue_of work other m
+  pub issued_same : (m : ℕ) → issue_of work start m ≡ issue_of work other m
   issued_same m = same_issue work start other m (λ f follow.
       let is = follows f m follow in
       at f is.from (omega (arith, is.earlier, is.to)))
 
-  latency_same : (m : ℕ) → 1 ≤ m → m < 1 + work.count → latency_of work start m ≡ latency_of work other m
+  pub latency_same : (m : ℕ) → 1 ≤ m → m < 1 + work.count → latency_of work start m ≡ latency_of work other m
   latency_same m from to =
       ap (λ s. s + work.cost m - issue_of work start m) (at m from to) ∙ ap (λ i. finish_of work other m - i) (issued_same m)
 

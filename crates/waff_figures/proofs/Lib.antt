@@ -1,8 +1,10 @@
 pub mod Lists
 pub mod SumLemmas
 pub mod GroupLemmas
+pub mod KindRows
 mod BelowLemmas
 mod TallyLemmas
+mod MemberLemmas
 pub mod NameLemmas
 mod LineLemmas
 pub mod AddingUp
@@ -12,6 +14,9 @@ pub mod FigureLaws
 pub mod LeastLaws
 mod PlanLemmas
 mod NameLaws
+pub mod PartLemmas
+pub mod Falling
+mod PartRows
 mod WaitLemmas
 mod WaitRowLemmas
 mod WaitKinds
@@ -19,3 +24,5 @@ mod WaitOrder
 mod WaitGroups
 mod WaitSums
 pub mod WaitUnique
+mod WorstLemmas
+pub mod WorstLaws

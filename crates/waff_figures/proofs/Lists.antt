@@ -1,5 +1,5 @@
 -- Lists of any elements: what is counted in them, what a filter keeps, and when two are equal.
-use Rattle.std.proofs.Common.{◌≡◌, ◌≢◌, ℕ, zero, suc, ◌+◌, ◌<◌, inl, inr, cond, Bool, true, false, List, [], ◌∷◌, ◌++◌, ◌||◌, length, get_or, set, map, filter, count_by, All, Contains, arith, refl, sym, ◌∙◌, ap, subst, length-set, get_or-set_other, get_or-set_same}
+use Rattle.std.proofs.Common.{◌≡◌, ◌≢◌, ℕ, zero, suc, ◌<◌, ◌⊎◌, inl, inr, cond, Bool, true, false, List, [], ◌∷◌, ◌++◌, ◌||◌, length, get_or, set, map, filter, count_by, All, Contains, arith, refl, sym, ◌∙◌, ap, subst, length-set, get_or-set_other, get_or-set_same}
 use Rattle.std.specs.Cmp.{IsEquivalence}
 use Rattle.std.specs.List.{AllPairs, list_any}
 use Rattle.std.specs.Str.{bytes_eq}
@@ -128,6 +128,48 @@ module _ {X : Type 0} (R : X → X → Type 0) (one_way : (x y : X) → R x y �
       (λ e. let after : R x x = subst (R x) (sym (same ∙ e)) (behind x xs order z there) in absurd (one_way x x after after)) (λ in_ys. in_ys))
       (λ z there. first_or_behind (Contains xs z) x z xs (back z (suc there.0, omega (arith, there.1), there.2))
       (λ e. let after : R y y = subst (R y) (sym (sym same ∙ e)) (behind y ys other z there) in absurd (one_way y y after after)) (λ in_xs. in_xs)) in
+      ap (λ v. v ∷ xs) same ∙ ap (λ vs. y ∷ vs) rest
+
+  -- an element is the first of a list that has it or has it behind all, or the first comes before it
+  first_or_after : (x y : X) (ys : List X) → AllPairs R (y ∷ ys) → Contains (y ∷ ys) x ⊎ All (λ v. R v x) (y ∷ ys) → (x ≡ y) ⊎ R y x
+  first_or_after x y ys order (inl has) = first_or_behind ((x ≡ y) ⊎ R y x) y x ys has (λ e. inl (sym e)) (λ there. inr (behind y ys order x there))
+  first_or_after x y ys order (inr all) = inr (all 0 y (omega arith))
+
+  -- what is behind the first of such a list
+  left_behind : (P : X → Type 0) (x z : X) (xs : List X) → x ≡ z → ((m : X) → P m → Contains (x ∷ xs) m ⊎ All (λ v. R v m) (x ∷ xs))
+      → (m : X) → P m × (m ≢ z) → Contains xs m ⊎ All (λ v. R v m) xs
+  left_behind P x z xs same left m is = elim (left m is.0) [
+    | inl has ↦ first_or_behind (Contains xs m ⊎ All (λ v. R v m) xs) x m xs has (λ e. absurd (is.1 (sym (sym same ∙ e)))) (λ there. inl there)
+    | inr all ↦ inr (λ k d low. all (suc k) d (omega (arith, low)))
+  ]
+
+  others_among : (P : X → Type 0) (x z : X) (xs : List X) → x ≡ z → AllPairs R (x ∷ xs) → All P (x ∷ xs) → All (λ m. P m × (m ≢ z)) xs
+  others_among P x z xs same order all k d low = (
+    all (suc k) d (omega (arith, low)),
+    λ e.
+        let after : R x x = subst (R x) (e ∙ sym same) (order 0 (suc k) d (omega arith) (omega (arith, low))) in
+        one_way x x after after,
+  )
+
+  -- two lists in one order are equal where as many elements are in each, and what is in neither comes after them
+  pub same_firsts : (P : X → Type 0) (xs ys : List X) → length xs ≡ length ys → AllPairs R xs → AllPairs R ys → All P xs → All P ys
+      → ((m : X) → P m → Contains xs m ⊎ All (λ v. R v m) xs) → ((m : X) → P m → Contains ys m ⊎ All (λ v. R v m) ys) → xs ≡ ys
+  same_firsts P [] [] long order other all also left right = refl
+  same_firsts P [] (y ∷ ys) long order other all also left right = absurd (omega (arith, long))
+  same_firsts P (x ∷ xs) [] long order other all also left right = absurd (omega (arith, long))
+  same_firsts P (x ∷ xs) (y ∷ ys) long order other all also left right =
+      let one = first_or_after x y ys other (right x (all 0 x (omega arith))) in
+      let another = first_or_after y x xs order (left y (also 0 y (omega arith))) in
+      let same : x ≡ y = elim one [
+        | inl e ↦ e
+        | inr before ↦ elim another [
+          | inl e ↦ sym e
+          | inr after ↦ absurd (one_way x y after before)
+        ]
+      ] in
+      let rest = same_firsts (λ m. P m × (m ≢ x)) xs ys (omega (arith, long)) (tail_order x xs order) (tail_order y ys other)
+      (others_among P x x xs refl order all) (others_among P y x ys (sym same) other also)
+      (left_behind P x x xs refl left) (left_behind P y x ys (sym same) right) in
       ap (λ v. v ∷ xs) same ∙ ap (λ vs. y ∷ vs) rest
 
 -- tests that pass alike are equal

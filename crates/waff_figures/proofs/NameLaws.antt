@@ -26,7 +26,7 @@ module _ (names : List (List ℕ)) where
   message_at : (i : ℕ) (d : ℕ) → i < length names → get_or messages i d ≡ 1 + i
   message_at i d inside = get_or-range_with_len 1 (length names) i d inside
 
-  all_messages : All (IsAmongFirst (length names)) messages
+  pub all_messages : All (IsAmongFirst (length names)) messages
   all_messages i d low =
       let inside : i < length names = omega (arith, low, length-range_with_len 1 (length names)) in
       record { from = omega (arith, message_at i d inside); to = omega (arith, message_at i d inside, inside) }
@@ -52,7 +52,7 @@ module _ (names : List (List ℕ)) where
       ∙ ap (count_by (bytes_eq name)) (sym distinct_are) ∙ once_if_there bytes_eq bytes_laws names name
 
   -- the terms of some messages, name by name
-  by_name : (term : ℕ → ℕ) (some : List ℕ) → All (IsAmongFirst (length names)) some
+  pub by_name : (term : ℕ → ℕ) (some : List ℕ) → All (IsAmongFirst (length names)) some
       → sum_by (λ first. sum_by (λ m. cond (is_named names (label_at names first) m) (term m) 0) some) (first_messages names) ≡ sum_by term some
   by_name term some are = parts_add_up (λ first. is_named names (label_at names first)) term (first_messages names) some (λ k d low.
       let m = get_or some k d in

@@ -25,7 +25,7 @@ map_range_same f g a (suc n) h =
     ap (λ x. x ∷ map f (range_with_len (a + 1) n)) (h a (omega arith) (omega arith))
     ∙ ap (λ xs. g a ∷ xs) (map_range_same f g (a + 1) n (λ m low high. h m (omega arith) (omega arith)))
 
-pub map_map : {X Y : Type 0} (f : X → Y) (g : ℕ → X) (xs : List ℕ) → map (λ x. f (g x)) xs ≡ map f (map g xs)
+pub map_map : {W X Y : Type 0} (f : X → Y) (g : W → X) (xs : List W) → map (λ x. f (g x)) xs ≡ map f (map g xs)
 map_map f g [] = refl
 map_map f g (x ∷ xs) = ap (λ ys. f (g x) ∷ ys) (map_map f g xs)
 

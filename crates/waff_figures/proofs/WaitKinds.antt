@@ -1,21 +1,17 @@
 -- The kinds of waits, numbered as they come.
-use Rattle.std.proofs.Common.{◌≡◌, ℕ, ◌<◌, cond, ◌==◌, Bool, true, false, not, List, [], ◌∷◌, ◌++◌, length, get_or, map, slice_get, All, Option, Some, None, option_map, ◌&&◌, arith, refl, sym, ◌∙◌, ap}
+use Rattle.std.proofs.Common.{◌≡◌, ℕ, ◌<◌, cond, ◌==◌, Bool, true, false, not, List, [], ◌∷◌, ◌++◌, length, get_or, slice_get, All, Option, Some, None, option_map, ◌&&◌, refl, sym, ap}
 use Rattle.std.specs.Cmp.{IsEquivalence}
 use Rattle.std.specs.Cmp.Lexicographic.{options_equiv}
 use Rattle.std.specs.List.{list_any}
 use Rattle.std.specs.Option.{option_eq}
 use Rattle.std.proofs.lemmas.Bool.{false≢true}
 use Rattle.std.proofs.lemmas.Cmp.{and_equiv, nat_eq_equiv, on_equiv}
-use Rattle.std.proofs.lemmas.List.{get_or-map, length-map, map_push}
 use Rattle.std.proofs.lemmas.List.Elements.{All-push, All-set}
-use Rattle.std.proofs.lemmas.Option.{get_or_from_slice_get, slice_get_within}
-use Rattle.waff_figures.specs.Groups.{firsts_by}
-use Rattle.waff_figures.specs.WaitRows.{group_of, kind_in, row_of, row_over, row_with, rows_by, rows_with, same_group, same_kind}
+use Rattle.waff_figures.specs.WaitRows.{group_of, kind_in, row_over, row_with, rows_with, same_group, same_kind}
 use Rattle.waff_figures.specs.declared.wait_rows.Row.{Row}
 use Rattle.waff_figures.specs.declared.waits.Wait.{Wait}
-use Rattle.waff_figures.proofs.GroupLemmas.{firsts_push}
-use Rattle.waff_figures.proofs.Lists.{any_map, any_same}
-use Rattle.waff_figures.proofs.WaitRowLemmas.{rows_grow, rows_new}
+use Rattle.waff_figures.proofs.KindRows as kinds
+use Rattle.waff_figures.proofs.WaitRowLemmas.{row_more}
 
 abbrev pub Kind : Type 0
 Kind = (ℕ × ℕ) × Option (ℕ × ℕ)
@@ -57,68 +53,34 @@ all_with P Q rows place false w all keeps new inside grows =
     (λ k d low. keeps (get_or rows k d) (all k d low))
 
 module _ (groups : List (ℕ × ℕ)) where
-  abbrev alike : ℕ → ℕ → Bool
-  alike = same_group groups
-
   abbrev is : Wait → Wait → Bool
-  is = same_kind alike
+  is = same_kind (same_group groups)
 
-  laws : IsEquivalence is
-  laws = kinds_are alike (groups_are groups)
+  pub laws : IsEquivalence (same_kind (same_group groups))
+  laws = kinds_are (same_group groups) (groups_are groups)
 
   -- a row for each kind that has come, in the order of the first waits, and their kinds
-  pub record AreSoFar (ws : List Wait) (rows : List Row) (keys : List Kind) : Type 0 where
-    pub rows_are : rows ≡ rows_by (same_group groups) ws
-    pub kinds : keys ≡ map (kind_in groups) (firsts_by (same_kind (same_group groups)) ws)
+  abbrev pub AreSoFar : List Wait → List Row → List Kind → Type 0
+  AreSoFar ws rows keys =
+      kinds.AreSoFar (same_kind (same_group groups)) laws row_over row_with row_more (kind_in groups) kind_eq (same_kinds groups) ws rows keys
 
   module _ (ws : List Wait) (w : Wait) (rows : List Row) (keys new_keys : List Kind) (place : ℕ) (are : AreSoFar ws rows keys) where
-    abbrev firsts : List Wait
-    firsts = firsts_by is ws
-
     abbrev Places : Type 0
     Places = (k : Kind) × (slice_get new_keys place ≡ Some k) × (kind_eq (kind_in groups w) k ≡ true)
 
-    -- the place of a kind that is there is that of a first wait of the kind
-    place_there : new_keys ≡ keys → Places → place < length firsts
-    place_there same placed =
-        let within = slice_get_within new_keys place placed.0 placed.1 in
-        omega (arith, within, ap length same, ap length are.kinds, length-map firsts (kind_in groups))
-
-    first_there : new_keys ≡ keys → Places → is (get_or firsts place w) w ≡ true
-    first_there same placed =
-        let first = get_or firsts place w in
-        let at : get_or new_keys place (kind_in groups w) ≡ kind_in groups first
-        = ap (λ ks. get_or ks place (kind_in groups w)) (same ∙ are.kinds) ∙ get_or-map (kind_in groups) firsts place w (kind_in groups w) (place_there same placed) in
-        let found : placed.0 ≡ kind_in groups first = sym (get_or_from_slice_get new_keys place placed.0 (kind_in groups w) placed.1) ∙ at in
-        laws.symm first w ∙ same_kinds groups w first ∙ ap (kind_eq (kind_in groups w)) (sym found) ∙ placed.2
-
     pub inside_if_old : (is_new among : Bool) → is_new ≡ not among → new_keys ≡ cond among keys (keys ++ kind_in groups w ∷ []) → Places
         → is_new ≡ false → place < length rows
-    inside_if_old is_new true added keys_are placed old =
-        omega (arith, place_there keys_are placed, ap length are.rows_are, length-map firsts (row_of alike ws))
-    inside_if_old is_new false added keys_are placed old = absurd (false≢true (sym old ∙ added))
-
-    -- the kind is among them where the wait is like a first one
-    is_among : list_any (kind_eq (kind_in groups w)) keys ≡ list_any (is w) firsts
-    is_among =
-        ap (list_any (kind_eq (kind_in groups w))) are.kinds ∙ any_map (kind_eq (kind_in groups w)) (kind_in groups) firsts
-        ∙ any_same (λ v. kind_eq (kind_in groups w) (kind_in groups v)) (is w) firsts (λ k d low. sym (same_kinds groups w (get_or firsts k d)))
+    inside_if_old is_new among added keys_are placed old =
+        kinds.inside_if_old is laws row_over row_with row_more (kind_in groups) kind_eq (same_kinds groups) ws w rows keys new_keys place are
+        is_new among added keys_are placed old
 
     pub one_more : (is_new among : Bool) → among ≡ list_any (kind_eq (kind_in groups w)) keys → is_new ≡ not among
         → new_keys ≡ cond among keys (keys ++ kind_in groups w ∷ []) → Places → AreSoFar (ws ++ w ∷ []) (rows_with rows place is_new w) new_keys
-    one_more true true among added keys_are placed = absurd (false≢true (sym added))
-    one_more false false among added keys_are placed = absurd (false≢true added)
-    one_more true false among added keys_are placed =
-        let none : list_any (is w) firsts ≡ false = sym (among ∙ is_among) in
-        record {
-          rows_are = ap (λ rs. rs ++ row_over (w ∷ []) w ∷ []) are.rows_are ∙ sym (rows_new alike laws ws w none);
-          kinds = keys_are ∙ ap (λ ks. ks ++ kind_in groups w ∷ []) are.kinds ∙ sym (map_push (kind_in groups) firsts w)
-              ∙ ap (map (kind_in groups)) (sym (firsts_push is ws w ∙ ap (λ b. cond b firsts (firsts ++ w ∷ [])) none));
-        }
-    one_more false true among added keys_are placed =
-        let there : list_any (is w) firsts ≡ true = sym (among ∙ is_among) in
-        record {
-          rows_are = ap (λ rs. rows_with rs place false w) are.rows_are
-              ∙ sym (rows_grow alike laws ws w place (place_there keys_are placed) there (first_there keys_are placed));
-          kinds = keys_are ∙ are.kinds ∙ ap (map (kind_in groups)) (sym (firsts_push is ws w ∙ ap (λ b. cond b firsts (firsts ++ w ∷ [])) there));
-        }
+    one_more true true is_there added keys_are placed = absurd (false≢true (sym added))
+    one_more false false is_there added keys_are placed = absurd (false≢true added)
+    one_more true false is_there added keys_are placed =
+        kinds.with_new is laws row_over row_with row_more (kind_in groups) kind_eq (same_kinds groups) ws w rows keys new_keys place are
+        false is_there refl keys_are
+    one_more false true is_there added keys_are placed =
+        kinds.with_more is laws row_over row_with row_more (kind_in groups) kind_eq (same_kinds groups) ws w rows keys new_keys place are
+        true (row_over [] w) is_there refl keys_are placed

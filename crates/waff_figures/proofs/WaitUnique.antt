@@ -33,12 +33,12 @@ module _ (before : ℕ → ℕ → Type 0) (work : Work) (known : (i m : ℕ) �
   same_finish : (i m : ℕ) → before i m → finish_of work start i ≡ finish_of work other i
   same_finish i m pair = ap (λ s. s + work.cost i) (same i (known i m pair))
 
-  same_issued : (m : ℕ) → issue_of work start m ≡ issue_of work other m
+  pub same_issued : (m : ℕ) → issue_of work start m ≡ issue_of work other m
   same_issued m = same_issue work start other m (λ f follow.
       let is = follows f m follow in
       same f (record { from = is.from; to = omega (arith, is.earlier, is.to) }))
 
-  link_is_one : (m : ℕ) (a b : Option ℕ) → IsWaitedFor before work start m a → IsWaitedFor before work other m b → a ≡ b
+  pub link_is_one : (m : ℕ) (a b : Option ℕ) → IsWaitedFor before work start m a → IsWaitedFor before work other m b → a ≡ b
   link_is_one m None None first second = refl
   link_is_one m None (Some j) first second =
       let pair = second.0.one in
@@ -62,7 +62,7 @@ module _ (before : ℕ → ℕ → Type 0) (work : Work) (known : (i m : ℕ) �
       let equal : i ≡ j = omega (arith, no_higher, no_lower) in
       ap Some equal
 
-  same_ready : (m : ℕ) (link : Option ℕ) → IsWaitedFor before work start m link → ready_of work start m link ≡ ready_of work other m link
+  pub same_ready : (m : ℕ) (link : Option ℕ) → IsWaitedFor before work start m link → ready_of work start m link ≡ ready_of work other m link
   same_ready m None is = same_issued m
   same_ready m (Some i) is = same_finish i m is.0.one
 
@@ -119,7 +119,7 @@ same_rows alike waits rows other are other_are =
 
 -- what was waited for by one of two relations that are the same
 module _ (before again : Relation) (work : Work) (start : ℕ → ℕ) (into : (i m : ℕ) → before i m → again i m) (back : (i m : ℕ) → again i m → before i m) where
-  waited_again : (m : ℕ) (link : Option ℕ) → IsWaitedFor before work start m link → IsWaitedFor again work start m link
+  pub waited_again : (m : ℕ) (link : Option ℕ) → IsWaitedFor before work start m link → IsWaitedFor again work start m link
   waited_again m None is = λ i pair. is i (back i m pair)
   waited_again m (Some i) is = (
     record {

@@ -1,11 +1,15 @@
 -- Where the time goes, by affinity.
-use Rattle.std.specs.Prelude.{◌≡◌, ℕ, ◌==◌, ◌<◌, ◌↔◌, Bool, IsTrue, List, [], ◌∷◌, Option, Some}
+use Rattle.std.specs.Prelude.{◌≡◌, ℕ, ◌==◌, ◌<◌, ◌↔◌, Bool, IsTrue, List, [], ◌∷◌, ◌++◌, Option, Some}
 use Rattle.std.specs.Prelude.{None, length, map, slice_index, slice_index_or, codes, decimal}
 use Rattle.std.specs.List.{range_with_len}
 use Rattle.waff_model.specs.Tree.{Node, AtOrAbove, name_of, parent_of}
 use Rattle.waff_assign.specs.Order.{affinity_of}
-use Rattle.waff_plan.specs.Work.{Work, IsNumber, numbers}
+use Rattle.waff_plan.specs.Work.{Work, IsNumber, length_of, numbers}
+use Rattle.waff_figures.specs.Parts.{no_part, part_fields, part_names}
 use Rattle.waff_figures.specs.Tally.{cost_among, no_tally, tally_of}
+use Rattle.waff_figures.specs.declared.grouping.Columns.{Columns}
+use Rattle.waff_figures.specs.declared.grouping.Columns.TheVariants.{Costs, Figures}
+use Rattle.waff_figures.specs.declared.parts.PartFigures.{PartFigures}
 use Rattle.waff_figures.specs.declared.tally.Tally.{Tally}
 
 -- whether message m runs in the affinity a
@@ -48,14 +52,34 @@ affinity_row tree assigned work chain below a =
     tally_row (name_of tree a) (parent_field tree (parent_of tree a)) (slice_index below a)
     (tally_of work chain (runs_in assigned a))
 
+-- the line of the affinity a with the figures of the messages that run in it, by a list of affinities
+abbrev pub affinity_figures_row : List Node → List ℕ → Work → (ℕ → ℕ) → List ℕ → List ℕ
+    → List PartFigures → ℕ → List (List ℕ)
+affinity_figures_row tree assigned work start chain below parts a =
+    affinity_row tree assigned work chain below a
+    ++ part_fields (length_of work start) (tally_of work chain (runs_in assigned a))
+    (slice_index_or parts a no_part)
+
 -- the lines of all affinities, in order
-abbrev pub affinities_lines : List Node → List ℕ → Work → List ℕ → List ℕ → List (List (List ℕ))
-affinities_lines tree assigned work chain below =
+abbrev pub affinities_lines : Columns → List Node → List ℕ → Work → (ℕ → ℕ) → List ℕ → List ℕ
+    → List PartFigures → List (List (List ℕ))
+affinities_lines Costs tree assigned work start chain below parts =
     affinities_header
     ∷ map (affinity_row tree assigned work chain below) (range_with_len 0 (length tree))
+affinities_lines Figures tree assigned work start chain below parts =
+    (affinities_header ++ part_names)
+    ∷ map (affinity_figures_row tree assigned work start chain below parts)
+    (range_with_len 0 (length tree))
 
 -- the line of the affinity a, by a tally and a cost below for each affinity
 abbrev pub tallied_row : List Node → List Tally → List ℕ → ℕ → List (List ℕ)
 tallied_row tree tallies below a =
     tally_row (name_of tree a) (parent_field tree (parent_of tree a))
     (slice_index below a) (slice_index_or tallies a no_tally)
+
+-- and by the figures of each, in a plan of this length
+abbrev pub tallied_figures_row : List Node → ℕ → List Tally → List ℕ → List PartFigures → ℕ
+    → List (List ℕ)
+tallied_figures_row tree plan_length tallies below parts a =
+    tallied_row tree tallies below a
+    ++ part_fields plan_length (slice_index_or tallies a no_tally) (slice_index_or parts a no_part)

@@ -6,18 +6,26 @@ use Rattle.waff_plan.specs.Work.{Work, finish_of, greatest, issue_of, length_of,
 use Rattle.waff_figures.specs.Percentile.{IsPercentile}
 use Rattle.waff_figures.specs.declared.figures.Figures.{Figures}
 
--- how long the messages wait: the sum of start - issue over all of them, 0 for one that starts before
--- its issue
+-- how long these messages wait: the sum of start - issue over them, 0 for one that starts before its
+-- issue
+abbrev pub waits_among : Work → (ℕ → ℕ) → List ℕ → ℕ
+waits_among work start messages = sum_by (λ m. start m - issue_of work start m) messages
+
+-- how long all messages wait
 abbrev pub waits_of : Work → (ℕ → ℕ) → ℕ
-waits_of work start = sum_by (λ m. start m - issue_of work start m) (numbers work)
+waits_of work start = waits_among work start (numbers work)
 
 -- how long a message takes from its issue to its finish, 0 where it finishes before its issue
 abbrev pub latency_of : Work → (ℕ → ℕ) → ℕ → ℕ
 latency_of work start m = finish_of work start m - issue_of work start m
 
+-- the latencies of these messages
+abbrev pub latencies_among : Work → (ℕ → ℕ) → List ℕ → List ℕ
+latencies_among work start messages = map (latency_of work start) messages
+
 -- the latencies of all messages, in the order of arrival
 abbrev pub latencies_of : Work → (ℕ → ℕ) → List ℕ
-latencies_of work start = map (latency_of work start) (numbers work)
+latencies_of work start = latencies_among work start (numbers work)
 
 -- the figures of a plan with these starts, for this number of workers or without a limit, where no plan
 -- is shorter than the bound and these are percentiles of the latencies

@@ -4,12 +4,17 @@ pub mod Least
 pub mod Sweep
 pub mod Rate
 pub mod Tally
+pub mod Parts
+pub mod Members
 pub mod Below
 pub mod ByAffinity
 pub mod Groups
 pub mod ByName
 pub mod Laws
+pub mod PartLaws
 pub mod Waits
 pub mod WaitRows
 pub mod WaitText
 pub mod WaitLaws
+pub mod Worst
+pub mod WorstText

@@ -1,34 +1,48 @@
 //! Where the time goes, by affinity.
 
-ghost use Rattle.std.specs.Prelude.{◌≡◌, ◌<◌, ◌∷◌, ℕ, List, IfOk, OnOk, length, map, string_bytes};
+ghost use Rattle.std.specs.Prelude.{◌≡◌, ◌<◌, ◌∷◌, ◌++◌, ℕ, List, IfOk, OnOk, count_by, length, map};
+ghost use Rattle.std.specs.Prelude.{slice_index_or, string_bytes};
 ghost use Rattle.std.specs.List.{range_with_len};
 ghost use Rattle.waff_model.specs.Tree.{parent_of};
 ghost use Rattle.waff_plan.specs.Chain.{IsListed};
-ghost use Rattle.waff_plan.specs.Planned.{planned_work};
+ghost use Rattle.waff_plan.specs.Planned.{planned_starts, planned_work};
+ghost use Rattle.waff_plan.specs.Timetable.{starts_in, work_in};
+ghost use Rattle.waff_plan.specs.Work.{length_of, numbers};
 ghost use Rattle.waff_plan_text.specs.Lines.{Adds, line_text, text_of};
 ghost use Rattle.waff_figures.specs.ByAffinity.{AreCostsBelow, affinities_header};
-ghost use Rattle.waff_figures.specs.ByAffinity.{affinities_lines, parent_field};
-ghost use Rattle.waff_figures.specs.ByAffinity.{tally_row, tallied_row};
+ghost use Rattle.waff_figures.specs.ByAffinity.{affinities_lines, parent_field, runs_in};
+ghost use Rattle.waff_figures.specs.ByAffinity.{tallied_figures_row, tallied_row, tally_row};
+ghost use Rattle.waff_figures.specs.Parts.{AreOfParts, AreTheParts, part_fields, part_names};
+ghost use Rattle.waff_figures.specs.Tally.{is_in, no_tally};
 
 use crate::below::costs_below;
+use crate::fields::{PART, PartFields};
 use crate::grouped::Grouped;
+use crate::grouping::Columns;
+use crate::parts::{PartFigures, parts};
 use crate::tally::{Tally, tallies};
 use std::alloc::{AllocError, Global};
 use waff_model::{AffinityId, Tree};
 use waff_plan::Planned;
 
-/// The text that tells for each affinity how many messages run in it, and the sums of their costs.
+/// The text that tells for each affinity how many messages run in it, and the sums of their costs;
+/// with figures also how long they wait and take.
 pub fn affinities_text(
     alloc: Global,
     planned: &Planned<'_>,
     chain: &[u32],
+    columns: Columns,
 ) -> Result<String, AllocError>
     requires chain { IsListed (planned_work planned.now).count chain.now }
-    ensures { IfOk result (λ text. (below : List ℕ)
+    ensures { IfOk result (λ text. (below : List ℕ) × (parts : List PartFigures)
         × AreCostsBelow planned.now.case.tree.now planned.now.case.assigned.now
         (planned_work planned.now) below
-        × (string_bytes text ≡ text_of (affinities_lines planned.now.case.tree.now
-        planned.now.case.assigned.now (planned_work planned.now) chain.now below))) }
+        × AreTheParts columns (planned_work planned.now) (planned_starts planned.now)
+        (runs_in planned.now.case.assigned.now)
+        (range_with_len 0 (length planned.now.case.tree.now)) parts
+        × (string_bytes text ≡ text_of (affinities_lines columns planned.now.case.tree.now
+        planned.now.case.assigned.now (planned_work planned.now) (planned_starts planned.now)
+        chain.now below parts))) }
 {
     let tree = planned.case.tree;
     let _total = planned.plan.total();
@@ -40,7 +54,16 @@ pub fn affinities_text(
     };
     let tallies = tallies(alloc, &grouped, chain)?;
     let below = costs_below(alloc, tree, tallies.as_slice())?;
-    tallied_text(alloc, tree, tallies.as_slice(), below.as_slice())
+    match columns {
+        Columns::Costs => tallied_text(alloc, tree, tallies.as_slice(), below.as_slice()),
+        Columns::Figures => figures_text(
+            alloc,
+            tree,
+            &grouped,
+            tallies.as_slice(),
+            below.as_slice(),
+        ),
+    }
 }
 
 /// The text of the affinities with the tally of each and the costs below it.
@@ -113,4 +136,102 @@ fn push_row(
         chain,
     } = *tally;
     writeln!(text, "{name},{parent},{messages},{cost},{below},{chain}")
+}
+
+/// The text of the affinities with the figures of each too, by its tally and the costs below it.
+fn figures_text(
+    alloc: Global,
+    tree: &Tree,
+    grouped: &Grouped<'_>,
+    tallies: &[Tally],
+    below: &[u64],
+) -> Result<String, AllocError>
+    requires count { grouped.now.count ≡ length tree.now }
+    requires tallies { length tallies.now ≡ length tree.now }
+    requires each { (g : ℕ) → g < grouped.now.count
+        → (slice_index_or tallies.now g no_tally).messages
+        ≡ count_by (is_in grouped.now.groups.now g) (numbers (work_in grouped.now.plan.now)) }
+    requires below { length below.now ≡ length tree.now }
+    ensures { IfOk result (λ text. (parts : List PartFigures)
+        × AreOfParts (work_in grouped.now.plan.now) (starts_in grouped.now.plan.now)
+        (is_in grouped.now.groups.now) (range_with_len 0 (length tree.now)) parts
+        × (string_bytes text ≡ text_of ((affinities_header ++ part_names)
+        ∷ map (tallied_figures_row tree.now
+        (length_of (work_in grouped.now.plan.now) (starts_in grouped.now.plan.now))
+        tallies.now below.now parts) (range_with_len 0 (length tree.now))))) }
+{
+    let plan_length = grouped.plan.length();
+    let parts = parts(alloc, grouped, tallies)?;
+    let mut text = String::new(alloc);
+    push_figures_header(&mut text)?;
+    push_figures_rows(
+        &mut text,
+        tree,
+        plan_length,
+        tallies,
+        below,
+        parts.as_slice(),
+    )?;
+    Ok(text)
+}
+
+/// Appends the first line with the names of the figures.
+fn push_figures_header(text: &mut String) -> Result<(), AllocError>
+    ensures { OnOk result (Adds text.old text.new (line_text (affinities_header ++ part_names))) }
+{
+    writeln!(text, "affinity,parent,messages,cost,below,chain,{PART}")
+}
+
+/// Appends the lines of all affinities with their figures, in a plan of this length.
+fn push_figures_rows(
+    text: &mut String,
+    tree: &Tree,
+    plan_length: u64,
+    tallies: &[Tally],
+    below: &[u64],
+    parts: &[PartFigures],
+) -> Result<(), AllocError>
+    requires tallies { length tallies.now ≡ length tree.now }
+    requires below { length below.now ≡ length tree.now }
+    requires parts { length parts.now ≡ length tree.now }
+    ensures { OnOk result (Adds text.old text.new
+        (text_of (map (tallied_figures_row tree.now plan_length tallies.now below.now parts.now)
+        (range_with_len 0 (length tree.now))))) }
+{
+    for a in 0..tree.len() {
+        let affinity = AffinityId(a as u16);
+        let name = tree.name(affinity);
+        let parent = parent_name(tree, affinity);
+        let fields = PartFields {
+            plan_length,
+            tally: tallies[a as usize],
+            figures: parts[a as usize],
+        };
+        push_figures_row(text, name, parent, below[a as usize], &fields)?;
+    }
+    Ok(())
+}
+
+/// Appends the line of one affinity with its figures.
+fn push_figures_row(
+    text: &mut String,
+    name: &str,
+    parent: &str,
+    below: u64,
+    fields: &PartFields,
+) -> Result<(), AllocError>
+    ensures { OnOk result (Adds text.old text.new
+        (line_text (tally_row name.now parent.now below fields.now.tally
+        ++ part_fields fields.now.plan_length fields.now.tally fields.now.figures))) }
+{
+    let Tally {
+        messages,
+        cost,
+        chain,
+    } = fields.tally;
+    let figures = *fields;
+    writeln!(
+        text,
+        "{name},{parent},{messages},{cost},{below},{chain},{figures}"
+    )
 }

@@ -2,9 +2,12 @@
 
 ghost use Rattle.std.specs.Prelude.{Some};
 ghost use Rattle.std.specs.List.{join_with_byte};
+ghost use Rattle.waff_figures.specs.Parts.{part_fields};
 ghost use Rattle.waff_figures.specs.Sweep.{busy_field, quality_fields};
 
 use crate::figures::Figures;
+use crate::parts::PartFigures;
+use crate::tally::Tally;
 use std::fmt;
 use waff_plan_text::{Mean, Ratio, RatioUp};
 
@@ -53,5 +56,34 @@ impl fmt::Display for QualityFields {
         let over = RatioUp(self.0.length, least);
         let mean = Mean(self.0.latencies, self.0.messages);
         write!(f, "{least},{over},{waits},{mean},{p50},{p99},{latency}")
+    }
+}
+
+/// The names of the figures of a part of the messages, joined by commas.
+pub(crate) const PART: &str = "running,waits,mean,p50,p99,latency";
+
+/// How many messages of a part run at once in the mean, in a plan of this length, and how long they
+/// wait and take: the fields of `PART`, joined by commas.
+#[derive(Clone, Copy)]
+pub(crate) struct PartFields {
+    pub(crate) plan_length: u64,
+    pub(crate) tally: Tally,
+    pub(crate) figures: PartFigures,
+}
+
+impl fmt::Display for PartFields {
+    ghost output = { λ part. Some (join_with_byte 44 (part_fields part.plan_length part.tally part.figures)) };
+
+    fn fmt<W: fmt::Write>(&self, f: &mut fmt::Formatter<W>) -> fmt::Result {
+        let PartFigures {
+            waits,
+            latencies,
+            p50,
+            p99,
+            latency,
+        } = self.figures;
+        let running = Ratio(self.tally.cost, u128::from(self.plan_length));
+        let mean = Mean(latencies, self.tally.messages);
+        write!(f, "{running},{waits},{mean},{p50},{p99},{latency}")
     }
 }

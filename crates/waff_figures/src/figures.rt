@@ -120,7 +120,7 @@ fn sum_of_waits(plan: &Plan) -> u128
 }
 
 /// How long message `n` takes from its issue to its finish, 0 where it finishes before that.
-fn latency(plan: &Plan, n: u32) -> u64
+pub(crate) fn latency(plan: &Plan, n: u32) -> u64
     requires number { IsAmongFirst (length plan.now.timings) n }
     ensures latency { result ≡ latency_of (work_in plan.now) (starts_in plan.now) n }
     ensures small { result < 2 ^ 64 }

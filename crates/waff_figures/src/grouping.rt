@@ -17,3 +17,12 @@ pub enum Label {
     /// Its client, `-` for a message of none.
     Client,
 }
+
+/// Which columns are told of each row.
+#[derive(Clone, Copy)]
+pub enum Columns {
+    /// How many messages, and their costs.
+    Costs,
+    /// The figures of the messages too: how many run, and how long they wait and take.
+    Figures,
+}

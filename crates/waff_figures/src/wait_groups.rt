@@ -16,11 +16,7 @@ use waff_assign::{Assigned, Case};
 
 /// The group of each message: those of one affinity are together, by name those of one name and
 /// one affinity.
-pub(crate) fn groups(
-    alloc: Global,
-    case: &Case<'_>,
-    grouping: Grouping,
-) -> Result<Vec<Group>, AllocError>
+pub fn groups(alloc: Global, case: &Case<'_>, grouping: Grouping) -> Result<Vec<Group>, AllocError>
     ensures count { IfOk result (λ groups. length groups.items ≡ length case.now.assigned.now) }
     ensures tell { IfOk result (λ groups. (m n : ℕ)
         → IsAmongFirst (length case.now.assigned.now) m

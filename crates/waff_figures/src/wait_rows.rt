@@ -26,7 +26,7 @@ pub struct Row {
 
 /// The group of a message: the number of its name, or 0 where names don't count, and that of its
 /// affinity.
-pub(crate) type Group = (u32, u32);
+pub type Group = (u32, u32);
 
 /// The rows of these waits, where message n is in the group `groups[n - 1]`: the most ticks first,
 /// and of as many ticks in the order of their first waits.

@@ -174,7 +174,7 @@ fn affinity_waited_for<'a>(case: &Case<'a>, on: Option<u32>) -> &'a str
 }
 
 /// The name of message `n`.
-fn message_name<'a>(case: &Case<'a>, n: u32) -> &'a str
+pub(crate) fn message_name<'a>(case: &Case<'a>, n: u32) -> &'a str
     requires message { IsAmongFirst (length case.now.assigned.now) n }
     ensures { result.now ≡ name_at (message_names case.now.trace.now.messages) n }
 {

@@ -6,12 +6,14 @@ ghost use Rattle.waff_model.specs.declared.message.Version.TheVariants.{V3};
 ghost use Rattle.waff_plan.specs.Obeys.{Obeys};
 ghost use Rattle.waff_plan.specs.Planned.{planned_order, planned_pairs, planned_starts};
 ghost use Rattle.waff_plan.specs.Planned.{planned_work};
+ghost use Rattle.waff_plan.specs.Timetable.{starts_in, work_in};
 ghost use Rattle.waff_plan.specs.Work.{IsAmongFirst};
-ghost use Rattle.waff_figures.specs.Waits.{AreWaits, ComesFirst, IsWaitAmong, wait_of, waits_in};
+ghost use Rattle.waff_figures.specs.Waits.{AreWaits, ComesFirst, IsWaitAmong, ready_of};
+ghost use Rattle.waff_figures.specs.Waits.{wait_of, waits_in};
 
 use std::alloc::{AllocError, Global};
-use waff_plan::Planned;
 use waff_plan::waited::waited;
+use waff_plan::{Plan, Planned};
 
 /// How long a message waits for another one, or for a worker.
 #[derive(Clone, Copy)]
@@ -59,10 +61,7 @@ fn push_waits(
 {
     let plan = planned.plan;
     let issue = plan.issue(message);
-    let ready = match link {
-        Some(other) => plan.finish(other),
-        None => issue,
-    };
+    let ready = ready(plan, message, link);
     push_wait(waits, message, link, ready.saturating_sub(issue))?;
     push_wait(
         waits,
@@ -70,6 +69,18 @@ fn push_waits(
         None,
         plan.start(message).saturating_sub(ready),
     )
+}
+
+/// From when on a message waits for a worker alone, where it waited for this one.
+pub(crate) fn ready(plan: &Plan, message: u32, link: Option<u32>) -> u64
+    requires message { IsAmongFirst (length plan.now.timings) message }
+    requires link { IfSome link (IsAmongFirst (length plan.now.timings)) }
+    ensures { result ≡ ready_of (work_in plan.now) (starts_in plan.now) message link }
+{
+    match link {
+        Some(other) => plan.finish(other),
+        None => plan.issue(message),
+    }
 }
 
 /// Appends a wait, where it is one of any ticks.

@@ -1,5 +1,5 @@
 -- Cells that are the same or not, and the ticks that are noted at them.
-use Rattle.std.proofs.Common.{◌≡◌, ◌⊎◌, inl, inr, ℕ, ◌+◌, ◌<◌, Bool, true, false, cond, ◌||◌, nat_eq, List, [], ◌∷◌, ◌++◌, length, take, get_or, Option, Some, None, refl, sym, ◌∙◌, ap, ap₂, subst, arith}
+use Rattle.std.proofs.Common.{◌≡◌, ◌⊎◌, inl, inr, ℕ, ◌+◌, ◌<◌, Bool, true, false, cond, ◌||◌, nat_eq, List, [], ◌∷◌, ◌++◌, length, take, get_or, refl, sym, ◌∙◌, ap, ap₂, arith}
 use Rattle.std.specs.List.{list_any}
 use Rattle.std.specs.Ordering.{eq_by_cmp}
 use Rattle.std.specs.List.Sorted.{IsStrictlySortedBy}
@@ -10,8 +10,7 @@ use Rattle.std.proofs.lemmas.Map.Keys.{IsDistinct-from_sorted, apart_from_distin
 use Rattle.waff_model.specs.declared.cell.Cell.{Cell}
 use Rattle.waff_assign.specs.Footprint.{cell_cmp}
 use Rattle.waff_assign.proofs.CellOrder.{cell_eq_ties}
-use Rattle.waff_limits.specs.Data.{IsMore, IsMostOf, is_cell, used_among}
-use Rattle.waff_limits.specs.declared.data.CellUse.{CellUse}
+use Rattle.waff_limits.specs.Data.{IsMore, is_cell, used_among}
 
 pub is_itself : (cell : Cell) → is_cell cell cell ≡ true
 is_itself cell = grind arith
@@ -36,7 +35,7 @@ or_true : (b : Bool) → (b || true) ≡ true
 or_true true = refl
 or_true false = refl
 
-is_turned : (cell other : Cell) → is_cell cell other ≡ is_cell other cell
+pub is_turned : (cell other : Cell) → is_cell cell other ≡ is_cell other cell
 is_turned cell other = grind arith
 
 module _ (cells : List Cell) (at : ℕ) (cell : Cell) (within : at < length cells) (is : get_or cells at cell ≡ cell) where
@@ -57,25 +56,14 @@ module _ (cells : List Cell) (at : ℕ) (cell : Cell) (within : at < length cell
       ∙ ap (λ b. list_any (is_cell other) (take at cells) || b) (or_false (is_cell other cell))
 
   -- so it counts where it had not, and nothing else changes
-  pub used_more : (used old new : Cell → ℕ) (ticks : ℕ) → IsStrictlySortedBy cell_cmp cells → IsMore old cell ticks new
-      → ((other : Cell) → old other ≡ used_among (take at cells) used ticks other) → (other : Cell) → new other ≡ used_among (take (at + 1) cells) used ticks other
-  used_more used old new ticks rising more before other = elim (cases_cell cell other) [
-    | inl same ↦ subst (λ x. new x ≡ used_among (take (at + 1) cells) used ticks x) (sym same)
-        (let is_in : list_any (is_cell cell) (take (at + 1) cells) ≡ true = one_more cell ∙ ap (λ b. list_any (is_cell cell) (take at cells) || b) (is_itself cell) ∙ or_true (list_any (is_cell cell) (take at cells)) in
+  pub used_more : (used : Cell → ℕ) (ticks : ℕ) → IsStrictlySortedBy cell_cmp cells
+      → IsMore (used_among (take at cells) used ticks) cell ticks (used_among (take (at + 1) cells) used ticks)
+  used_more used ticks rising = record {
+    here =
+        let is_in : list_any (is_cell cell) (take (at + 1) cells) ≡ true = one_more cell ∙ ap (λ b. list_any (is_cell cell) (take at cells) || b) (is_itself cell) ∙ or_true (list_any (is_cell cell) (take at cells)) in
         let now = cond-true (list_any (is_cell cell) (take (at + 1) cells)) ticks 0 is_in in
         let then = cond-false (list_any (is_cell cell) (take at cells)) ticks 0 (is_new rising) in
-        omega (arith, more.here, before cell, now, then))
-    | inr not ↦
-        more.others other not ∙ before other
-        ∙ ap (λ b. used other + cond b ticks 0) (sym (one_more other ∙ ap (λ b. list_any (is_cell other) (take at cells) || b) (is_turned other cell ∙ not) ∙ or_false (list_any (is_cell other) (take at cells))))
-  ]
-
--- cells that are used as long have the same one that is used most
-pub most_same : (used other : Cell → ℕ) → ((cell : Cell) → used cell ≡ other cell) → (found : Option CellUse) → IsMostOf used found → IsMostOf other found
-most_same used other same None most = λ cell. sym (same cell) ∙ most cell
-most_same used other same (Some found) most = record {
-  some = most.some;
-  ticks = sym (same found.cell) ∙ most.ticks;
-  most = λ cell. omega (arith, same cell, most.most cell);
-  first = λ cell is not. most.first cell (same cell ∙ is) not;
-}
+        omega (arith, now, then);
+    others = λ other not.
+        ap (λ b. used other + cond b ticks 0) (one_more other ∙ ap (λ b. list_any (is_cell other) (take at cells) || b) (is_turned other cell ∙ not) ∙ or_false (list_any (is_cell other) (take at cells)));
+  }

@@ -1,3 +1,13 @@
 pub mod Cells
 pub mod Uses
 pub mod DataLaws
+pub mod EdgeLemmas
+pub mod WalkLemmas
+pub mod LimitLemmas
+pub mod FirstCells
+pub mod LiftLemmas
+pub mod LiftedLists
+pub mod WhyOrder
+pub mod LiftRows
+pub mod WhyFields
+pub mod LimitLaws

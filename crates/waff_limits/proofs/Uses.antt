@@ -13,6 +13,7 @@ use Rattle.waff_model.specs.Cells.{cells_of}
 use Rattle.waff_model.specs.Messages.{IsTrace, Arrivals}
 use Rattle.waff_model.specs.Numbers.{IsAmongFirst}
 use Rattle.waff_model.specs.declared.cell.Cell.{Cell}
+use Rattle.waff_model.specs.declared.limits.TheConstants.{MAX_COST}
 use Rattle.waff_model.specs.declared.message.Message.{Message}
 use Rattle.waff_assign.specs.Footprint.{ListsFootprint}
 use Rattle.waff_assign.proofs.CellOrder.{cell_eq_equiv, cell_eq_same}
@@ -44,8 +45,8 @@ ticks_more messages n message cells number is lists cell =
     omega (arith, sum, one, cost)
 
 -- the ticks of a cell are not many
-costs_small : (f : Message → ℕ) (messages : List Message) → ((message : Message) → f message ≤ message.cost) → All (λ (m : Message). m.cost ≤ 1000000) messages
-    → sum_by f messages ≤ 1000000 * length messages
+costs_small : (f : Message → ℕ) (messages : List Message) → ((message : Message) → f message ≤ message.cost) → All (λ (m : Message). m.cost ≤ MAX_COST) messages
+    → sum_by f messages ≤ MAX_COST * length messages
 costs_small f [] below small = omega arith
 costs_small f (m ∷ messages) below small =
     omega (arith, below m, small 0 m (omega arith), costs_small f messages below (λ i d lt. small (suc i) d (omega arith)), sum_by-cons f m messages)
@@ -56,7 +57,7 @@ cost_within cell message = elim (cases_Bool (list_any (is_cell cell) (cells_of m
   | inr has ↦ omega (arith, cond-false (list_any (is_cell cell) (cells_of message.ops)) message.cost 0 has)
 ]
 
-pub ticks_small : (trace : Arrivals) → IsTrace trace → (n : ℕ) (cell : Cell) → ticks_on (take n trace.messages) cell ≤ 1000000 * n
+pub ticks_small : (trace : Arrivals) → IsTrace trace → (n : ℕ) (cell : Cell) → ticks_on (take n trace.messages) cell ≤ MAX_COST * n
 ticks_small trace is n cell =
-    let each : All (λ (m : Message). m.cost ≤ 1000000) trace.messages = λ i d lt. (is.messages i d lt).within_cost in
-    omega (arith, costs_small (cost_on cell) (take n trace.messages) (cost_within cell) (All-take (λ (m : Message). m.cost ≤ 1000000) n trace.messages each), length-take n trace.messages)
+    let each : All (λ (m : Message). m.cost ≤ MAX_COST) trace.messages = λ i d lt. (is.messages i d lt).within_cost in
+    omega (arith, costs_small (cost_on cell) (take n trace.messages) (cost_within cell) (All-take (λ (m : Message). m.cost ≤ MAX_COST) n trace.messages each), length-take n trace.messages)

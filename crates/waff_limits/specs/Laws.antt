@@ -1,14 +1,24 @@
--- What the data say of every tree of affinities.
-use Rattle.std.specs.Prelude.{ℕ, ◌≤◌, List, length, map}
+-- What the data say of every tree of affinities, and what limits say of all plans.
+use Rattle.std.specs.Prelude.{◌≡◌, ℕ, ◌≤◌, max, Bool, true, false, List, Option, None, IfSome, length, map}
 use Rattle.std.specs.List.{range_with_len}
 use Rattle.waff_model.specs.Layout.{Hierarchy, IsCell, IsLayout}
+use Rattle.waff_model.specs.Messages.{IsTrace, sizes_of}
+use Rattle.waff_model.specs.Versions.{has_clients}
 use Rattle.waff_model.specs.declared.cell.Cell.{Cell}
 use Rattle.waff_model.specs.declared.message.Message.{Message}
+use Rattle.waff_assign.specs.Instance.{Instance, before_in}
 use Rattle.waff_assign.specs.Lowest.{IsAssignment}
-use Rattle.waff_plan.specs.LowerBound.{path_cost}
+use Rattle.waff_plan.specs.Bound.{IsWorkers}
+use Rattle.waff_plan.specs.Instances.{served_first, work_of_instance}
+use Rattle.waff_plan.specs.LowerBound.{ObeysInSomeOrder, lower_bound_of, path_cost, share_in}
+use Rattle.waff_plan.specs.Obeys.{IsLeast, Obeys}
+use Rattle.waff_plan.specs.ServesAs.{ServesAs}
 use Rattle.waff_plan.specs.Timetable.{work_of_messages}
-use Rattle.waff_plan.specs.Work.{greatest}
+use Rattle.waff_plan.specs.Unique.{AreSame}
+use Rattle.waff_plan.specs.Work.{greatest, length_of}
 use Rattle.waff_limits.specs.Data.{ticks_on}
+use Rattle.waff_limits.specs.Limits.{AreLimits, ticks_of}
+use Rattle.waff_limits.specs.declared.limits.Limits.{Limits}
 
 -- the greatest sum of the costs of messages that run in one affinity or above it
 abbrev pub tree_ticks : Hierarchy → List Message → List ℕ → ℕ
@@ -20,3 +30,54 @@ abbrev pub DataBoundsTree : Hierarchy → List Message → List ℕ → Type 0
 DataBoundsTree layout messages assigned =
     IsLayout layout → IsAssignment layout messages assigned → (cell : Cell) → IsCell layout.spaces cell
     → ticks_on messages cell ≤ tree_ticks layout messages assigned
+
+-- an instance of a layout: a trace over its spaces, and for each message the lowest affinity that covers its footprint
+pub record IsUnder (layout : Hierarchy) (instance : Instance) : Type 0 where
+  pub is_layout : IsLayout layout
+  pub tree : layout.tree ≡ instance.tree
+  pub is_trace : IsTrace instance.trace
+  pub fits : instance.trace.sizes ≡ sizes_of layout.spaces
+  pub assignment : IsAssignment layout instance.trace.messages instance.assigned
+
+-- the greatest of what limits in whatever order, for so many workers or without a limit on them
+abbrev pub greatest_limit : Option ℕ → Limits → ℕ
+greatest_limit workers limits =
+    max (share_in workers limits.total) (max limits.client.ticks (max (ticks_of limits.cell) limits.path.ticks))
+
+-- it is the lower bound on the length of plans
+abbrev pub LimitsAreLowerBound : Instance → Type 0
+LimitsAreLowerBound instance =
+    (layout : Hierarchy) (workers : Option ℕ) (start : ℕ → ℕ) (limits : Limits) → IsUnder layout instance → AreLimits instance start limits
+    → greatest_limit workers limits ≡ lower_bound_of workers instance.tree instance.assigned (work_of_instance instance)
+
+-- no plan for as many workers that obeys in whatever order is shorter
+abbrev pub NoneIsBelowLimits : Instance → Type 0
+NoneIsBelowLimits instance =
+    (layout : Hierarchy) (workers : Option ℕ) (start other : ℕ → ℕ) (limits : Limits) → IsUnder layout instance → IfSome workers IsWorkers
+    → AreLimits instance start limits → ObeysInSomeOrder instance.tree instance.assigned (work_of_instance instance) workers other
+    → greatest_limit workers limits ≤ length_of (work_of_instance instance) other
+
+-- a plan keeps the order of another: before the third version that of the trace, which both keep, and in the third it serves as the other
+abbrev pub KeepsOrderWhere : Bool → Instance → (ℕ → ℕ) → (ℕ → ℕ) → Type 0
+KeepsOrderWhere false instance start other = Obeys (before_in instance) (work_of_instance instance) other
+KeepsOrderWhere true instance start other = ServesAs instance.tree instance.assigned (work_of_instance instance) start other
+
+-- no plan that keeps the order of the unlimited plan is shorter than it
+abbrev pub OrderIsShortest : Instance → Type 0
+OrderIsShortest instance =
+    (layout : Hierarchy) (start other : ℕ → ℕ) (limits : Limits) → IsUnder layout instance
+    → IsLeast (served_first instance start) (work_of_instance instance) start → AreLimits instance start limits
+    → KeepsOrderWhere (has_clients instance.trace.version) instance start other → limits.order ≤ length_of (work_of_instance instance) other
+
+-- the unlimited plan is no shorter than what the clients, the cells and the tree allow
+abbrev pub OrderIsNotBelow : Instance → Type 0
+OrderIsNotBelow instance =
+    (layout : Hierarchy) (start : ℕ → ℕ) (limits : Limits) → IsUnder layout instance
+    → IsLeast (served_first instance start) (work_of_instance instance) start → AreLimits instance start limits
+    → greatest_limit None limits ≤ limits.order
+
+-- what limits a workload is one
+abbrev pub LimitsAreOne : Instance → Type 0
+LimitsAreOne instance =
+    (start other : ℕ → ℕ) (one another : Limits) → AreSame (work_of_instance instance) start other
+    → AreLimits instance start one → AreLimits instance other another → one ≡ another

@@ -1,3 +1,8 @@
 pub mod Data
-pub mod Uses
+pub mod Edges
 pub mod Laws
+pub mod Limits
+pub mod Lifted
+pub mod WhyRows
+pub mod WhyLines
+pub mod LiftedLaws

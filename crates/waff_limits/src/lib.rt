@@ -1,6 +1,28 @@
-//! What limits a workload: the data that its messages contend for, whatever the tree of affinities.
+//! What limits a workload: its workers, its clients, the data that its messages contend for, the tree of
+//! affinities, and the order in which messages are served; and why messages run high in the tree.
+//!
+//! - `data`, over `edges`: the cell that messages use longest; `limits`: all limits of a case; `text`: their text.
+//! - `laws`: what the data say of every tree of affinities.
+//! - `laid`: a trace under a hierarchy. `lifted`: messages that run above the owner of their first cell, told together in
+//!   `why_rows`; `why_text`: their text, `cell_text`: a cell in it.
 
 #![tactic(auto)]
 
+mod cell_text;
 pub mod data;
+mod edges;
+mod laid;
 pub mod laws;
+mod lifted;
+pub mod lifted_laws;
+mod limits;
+mod text;
+mod why_rows;
+mod why_text;
+
+pub use laid::Laid;
+pub use lifted::Lift;
+pub use limits::{Limits, limits_of};
+pub use text::limits_text;
+pub use why_rows::Row;
+pub use why_text::lifting_text;

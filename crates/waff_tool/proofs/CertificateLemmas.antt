@@ -1,21 +1,25 @@
 -- What printed chains show of their plans, from the laws of plans.
-use Rattle.std.proofs.Common.{◌≡◌, ℕ, ◌≤◌, List, length, sym, ◌∙◌, ap}
+use Rattle.std.proofs.Common.{◌≡◌, ℕ, ◌-◌, ◌<◌, ◌≤◌, List, length, sym, ◌∙◌, ap, arith}
 use Rattle.waff_model.specs.Tree.{Node}
 use Rattle.waff_model.specs.declared.message.Message.{Message}
 use Rattle.waff_model.specs.declared.message.Version.{Version}
 use Rattle.waff_model.specs.declared.message.Version.TheVariants.{V1, V2, V3}
 use Rattle.waff_assign.specs.Instance.{Instance}
 use Rattle.waff_assign.specs.Order.{IsOrdered, Relation}
-use Rattle.waff_plan.specs.Work.{Work}
-use Rattle.waff_plan.specs.Obeys.{IsForward, IsLeast}
+use Rattle.waff_plan.specs.Work.{IsAmongFirst, Work}
+use Rattle.waff_plan.specs.Apart.{AreApart}
+use Rattle.waff_plan.specs.Obeys.{IsForward, IsLeast, Obeys}
 use Rattle.waff_plan.specs.Chain.{IsPrinted}
 use Rattle.waff_plan.specs.Instances.{served_first, started_first, work_of_instance}
 use Rattle.waff_plan.specs.Issues.{IsServedBefore}
 use Rattle.waff_plan.specs.Serving.{served_before}
 use Rattle.waff_plan.specs.Timetable.{AreTimings, timings_of}
+use Rattle.waff_plan.specs.Timing.{no_timing}
 use Rattle.waff_plan.specs.declared.timing.Timing.{Timing}
+use Rattle.waff_plan.proofs.ApartLaws.{apart_where_finished}
 use Rattle.waff_plan.proofs.Chains.{chains_are_within_length, least_is_shortest, printed_is_as_long, printed_is_chain}
 use Rattle.waff_plan.proofs.Ratios.{bound_is_within_ratio, bound_is_within_twice}
+use Rattle.waff_plan.proofs.StartOrder.{served_apart}
 use Rattle.waff_plan.proofs.ServingLemmas.{served_to_started, started_forward, started_to_served}
 use Rattle.waff_list.specs.Bound.{IsBusyPlan}
 use Rattle.waff_list.specs.ByIssue.{IsTakenByIssue}
@@ -26,8 +30,9 @@ use Rattle.waff_list.specs.declared.rule.Rule.TheVariants.{Arrival, Longest}
 use Rattle.waff_list.proofs.Graham.{list_plans_are_within_bound}
 use Rattle.waff_list.proofs.RuleLemmas.{busy_by_rule, busy_of}
 use Rattle.waff_list.proofs.TraceWork.{count_is}
+use Rattle.waff_check.proofs.ServesLaws.{serves_where_obeys}
 use Rattle.waff_figures.specs.Sweep.{IsPlanOf}
-use Rattle.waff_tool.specs.Certificates.{IsBounded, IsCertified}
+use Rattle.waff_tool.specs.Certificates.{AlikeObey, IsBounded, IsCertified}
 
 -- a plan of the messages has as many of them as have affinities
 pub as_many : (messages : List Message) (timings : List Timing) (assigned : List ℕ) → timings ≡ timings_of messages
@@ -70,6 +75,25 @@ module _ (instance : Instance) (are : AreTimings instance.trace.version (timings
   count : length timings ≡ length instance.assigned
   count = count_is instance.trace.messages ∙ sym same
 
+  run : (m : ℕ) → IsAmongFirst (length instance.assigned) m → 1 ≤ work.cost m
+  run m number =
+      let within : m - 1 < length timings = omega (arith, number.from, number.to, count) in
+      (are.small (m - 1) no_timing within).some_cost
+
+  apart : (version : Version) → Obeys (served_before version instance.tree instance.assigned work start) work start
+      → AreApart (IsOrdered instance.tree instance.assigned) work start
+  apart V1 obeys = λ i j pair. apart_where_finished work start i j (obeys.ordered i j pair.ordered) pair.together
+  apart V2 obeys = λ i j pair. apart_where_finished work start i j (obeys.ordered i j pair.ordered) pair.together
+  apart V3 obeys =
+      let as_many : length instance.assigned ≡ work.count = same ∙ sym (count_is instance.trace.messages) in
+      served_apart instance.tree instance.assigned work as_many
+      (λ m number. run m (record { from = number.from; to = omega (arith, number.to, as_many) })) start obeys
+
+  alike : Obeys (served_first instance start) work start → Obeys before work start → AlikeObey instance start
+  alike served obeys =
+      serves_where_obeys instance.tree instance.assigned work start run instance.trace.version obeys
+      (apart instance.trace.version served)
+
   pub certified : IsLeast (served_first instance start) work start → IsLeast before work start → IsCertified instance start chain
   certified served least =
       let forward : IsForward before work
@@ -77,6 +101,7 @@ module _ (instance : Instance) (are : AreTimings instance.trace.version (timings
       record {
         least = served;
         printed = printed;
+        alike = alike served.obeys least.obeys;
         shortest = λ other obeys. least_is_shortest before work start other least obeys;
         is_chain = printed_is_chain before work forward start chain printed;
         as_long = printed_is_as_long before work forward start chain least printed;
@@ -101,6 +126,7 @@ module _ (instance : Instance) (are : AreTimings instance.trace.version (timings
         at_once = served.within.within;
         printed = printed;
         is_chain = is_chain;
+        alike = alike obeys busy.within.obeys;
         bound = bound;
         twice = bound_is_within_twice before work k start chain is_chain bound;
         ratio = bound_is_within_ratio before work k start chain some is_chain bound;

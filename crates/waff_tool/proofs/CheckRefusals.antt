@@ -7,6 +7,7 @@ use Rattle.waff_read.specs.Hierarchies.{hierarchy_of}
 use Rattle.waff_inputs.specs.Known.{trace_of}
 use Rattle.waff_read.specs.declared.hier_error.HierError.{HierError}
 use Rattle.waff_read.specs.declared.trace_fault.TraceError.{TraceError}
+use Rattle.waff_assign.specs.Instance.{Instance}
 use Rattle.waff_plan_text.specs.Given.{Given}
 use Rattle.waff_plan_text.specs.PlanTexts.{plan_of}
 use Rattle.waff_plan_text.specs.declared.refusal.PlanTextError.{PlanTextError}
@@ -14,7 +15,7 @@ use Rattle.waff_inputs.specs.Inputs.{TellsOfFiles}
 use Rattle.waff_inputs.specs.declared.fault.ToolError.{ToolError}
 use Rattle.waff_inputs.specs.declared.fault.ToolError.TheVariants as tool
 use Rattle.waff_inputs.proofs.Refusals.{same_some}
-use Rattle.waff_tool.specs.CheckText.{RefusesCheck}
+use Rattle.waff_tool.specs.CheckText.{AcceptsPlan, RefusesCheck}
 use Rattle.waff_tool.specs.Unique.{CheckedIsNotRefused}
 
 -- the error of a plan text, of a trace and a plan text, and of all three files, in this order
@@ -47,10 +48,16 @@ check_refusal_is_one hierarchy_file trace_file plan_file one other (tells, refus
     same_some (of_files trace_file plan_file (hierarchy_of hierarchy_file)) one other
     (refused_is hierarchy_file trace_file plan_file one tells refused) (refused_is hierarchy_file trace_file plan_file other also too)
 
-pub checked_is_not_refused : (hierarchy_file trace_file plan_file : List ℕ) → CheckedIsNotRefused hierarchy_file trace_file plan_file
-checked_is_not_refused hierarchy_file trace_file plan_file v error checked tells refused =
+-- files whose plan is read are not refused
+pub accepted_plan_is_not_refused : (hierarchy_file trace_file plan_file : List ℕ) (instance : Instance) (given : Given) (error : ToolError)
+    → AcceptsPlan hierarchy_file trace_file plan_file instance given → TellsOfFiles error → ¬ RefusesCheck hierarchy_file trace_file plan_file error
+accepted_plan_is_not_refused hierarchy_file trace_file plan_file instance given error accepts tells refused =
     let found = refused_is hierarchy_file trace_file plan_file error tells refused in
     let none : of_files trace_file plan_file (hierarchy_of hierarchy_file) ≡ None =
-    ap (of_files trace_file plan_file) checked.accepts.accepts.is_layout ∙ ap (of_trace plan_file) checked.accepts.accepts.is_trace
-    ∙ ap of_plan checked.accepts.is_plan in
+    ap (of_files trace_file plan_file) accepts.accepts.is_layout ∙ ap (of_trace plan_file) accepts.accepts.is_trace
+    ∙ ap of_plan accepts.is_plan in
     cc
+
+pub checked_is_not_refused : (hierarchy_file trace_file plan_file : List ℕ) → CheckedIsNotRefused hierarchy_file trace_file plan_file
+checked_is_not_refused hierarchy_file trace_file plan_file v error checked tells =
+    accepted_plan_is_not_refused hierarchy_file trace_file plan_file checked.instance checked.given error checked.accepts tells

@@ -1,5 +1,5 @@
--- Of the same bytes there is one sweep, and one text of where the time goes.
-use Rattle.std.proofs.Common.{◌≡◌, ℕ, ◌<◌, List, ◌∷◌, map, length, get_or, Option, Some, None, arith, sym, ◌∙◌, ap, subst}
+-- Of the same bytes there is one sweep.
+use Rattle.std.proofs.Common.{◌≡◌, ℕ, ◌<◌, List, map, length, get_or, Some, None, sym, ◌∙◌, ap, subst}
 use Rattle.std.proofs.lemmas.List.{same_lists, get_or-map, length-map}
 use Rattle.std.proofs.lemmas.Option.{same_Some}
 use Rattle.waff_model.specs.Unique.{AtMostOne}
@@ -11,23 +11,16 @@ use Rattle.waff_plan.specs.Work.{length_of}
 use Rattle.waff_plan.proofs.Uniqueness.{same_length}
 use Rattle.waff_list.specs.declared.rule.Rule.{Rule}
 use Rattle.waff_plan_text.specs.Lines.{text_of}
-use Rattle.waff_figures.specs.ByAffinity.{affinities_lines, affinities_header, affinity_row, parent_field, tally_row, runs_in}
-use Rattle.waff_model.specs.Tree.{name_of, parent_of}
-use Rattle.waff_figures.specs.Tally.{tally_of}
-use Rattle.waff_figures.specs.ByName.{label_lines}
 use Rattle.waff_figures.specs.Figures.{AreFigures}
 use Rattle.waff_figures.specs.Least.{least_in}
 use Rattle.waff_figures.specs.Sweep.{AreListed, IsListed, IsPlanOf, sweep_lines}
 use Rattle.waff_figures.specs.declared.figures.Figures.{Figures}
-use Rattle.waff_figures.specs.declared.grouping.Label.{Label}
 use Rattle.waff_figures.proofs.FigureLaws.{figures_are_one}
-use Rattle.waff_figures.proofs.AddingUp.{cost_below_is_one}
 use Rattle.waff_figures.proofs.LeastLaws.{follows_in}
-use Rattle.waff_figures.proofs.RowLemmas.{map_range_same}
 use Rattle.waff_inputs.specs.Inputs.{Accepts}
 use Rattle.waff_inputs.proofs.SameInput.{same_input, told_is_one}
-use Rattle.waff_tool.specs.Figures.{IsSweepText, IsWhereText, TellsAffinities, TellsNames, TellsSweep, TellsWhere}
-use Rattle.waff_tool.proofs.PlanUniqueness.{IsSound, chain_in_one, least_in_one, rule_in_one}
+use Rattle.waff_tool.specs.Figures.{IsSweepText, TellsSweep}
+use Rattle.waff_tool.proofs.PlanUniqueness.{IsSound, least_in_one, rule_in_one}
 use Rattle.waff_tool.proofs.TextUniqueness.{is_sound}
 
 -- the figures of plans by the same rule for the same number of workers are the same
@@ -97,38 +90,3 @@ pub told_swept : (rule : Rule) (hierarchy_file trace_file workers sweep : List �
 told_swept rule hierarchy_file trace_file workers sweep instance accepts swept =
     subst (IsSwept rule workers swept.told.starts swept.told.listed swept.told.unlimited)
     (sym (same_input hierarchy_file trace_file instance swept.instance accepts swept.accepts)) (swept.told.least, swept.told.are_listed, swept.told.are_unlimited)
-
--- where the time goes, by affinity and by label
-module _ (instance : Instance) (sound : IsSound instance) where
-  affinities_are_one : AtMostOne (TellsAffinities instance)
-  affinities_are_one text other p q =
-      let tree = instance.tree in
-      let assigned = instance.assigned in
-      let work = work_of_instance instance in
-      let same = least_in_one instance sound (start_of p.starts) (start_of q.starts) p.certified.least q.certified.least in
-      let chains = chain_in_one instance sound (start_of p.starts) (start_of q.starts) p.chain q.chain p.certified.least.obeys.issued same
-      p.certified.printed q.certified.printed in
-      let row = λ (a cost : ℕ). tally_row (name_of tree a) (parent_field tree (parent_of tree a)) cost (tally_of work p.chain (runs_in assigned a)) in
-      let rows = map_range_same (affinity_row tree assigned work p.chain p.below) (affinity_row tree assigned work p.chain q.below) 0 (length tree)
-      (λ a from to. ap (row a) (cost_below_is_one tree assigned work a (get_or p.below a 0) (get_or q.below a 0)
-      (p.are_below a (omega (arith, to))) (q.are_below a (omega (arith, to))))) in
-      p.lines
-      ∙ ap (λ rs. text_of (affinities_header ∷ rs)) rows
-      ∙ ap (λ c. text_of (affinities_lines tree assigned work c q.below)) chains
-      ∙ sym q.lines
-
-  names_are_one : (label : Label) → AtMostOne (TellsNames label instance)
-  names_are_one label text other p q =
-      let work = work_of_instance instance in
-      let same = least_in_one instance sound (start_of p.starts) (start_of q.starts) p.certified.least q.certified.least in
-      let chains = chain_in_one instance sound (start_of p.starts) (start_of q.starts) p.chain q.chain p.certified.least.obeys.issued same
-      p.certified.printed q.certified.printed in
-      p.lines ∙ ap (λ c. text_of (label_lines label instance.trace.messages work c)) chains ∙ sym q.lines
-
-  where_is_one : (label : Option Label) → AtMostOne (TellsWhere label instance)
-  where_is_one None text other p q = affinities_are_one text other p q
-  where_is_one (Some label) text other p q = names_are_one label text other p q
-
-pub where_text_is_one : (hierarchy_file trace_file : List ℕ) (label : Option Label) → AtMostOne (IsWhereText hierarchy_file trace_file label)
-where_text_is_one hierarchy_file trace_file label = told_is_one (TellsWhere label) hierarchy_file trace_file
-    (λ i accepts. where_is_one i (is_sound hierarchy_file trace_file i accepts) label)

@@ -3,11 +3,12 @@ pub mod PlanUniqueness
 pub mod CheckRefusals
 pub mod CheckUniqueness
 mod ComparisonLemmas
-mod ComparisonRefusals
+pub mod ComparisonRefusals
 mod ExplainedFaults
 pub mod ExplainedLaws
 mod ExplainedLines
 pub mod FigureUniqueness
+pub mod LimitsTexts
 mod LineLaws
 pub mod NeedsTexts
 mod OrderLemmas
@@ -15,8 +16,11 @@ mod OwnPlanLaws
 pub mod RankLaws
 mod RankLemmas
 pub mod RateLaws
-mod ReplayRefusals
+pub mod ReplayRefusals
 mod ResultLemmas
 mod StateLines
 pub mod TextUniqueness
 pub mod WaitsTexts
+pub mod WhereTexts
+pub mod WorstTexts
+pub mod WhyTexts

@@ -68,7 +68,7 @@ record IsModest (version : Version) (work : Work) : Type 0 where
   few : work.count ≤ MAX_MESSAGES
   some_cost : (m : ℕ) → IsNumber work m → 1 ≤ work.cost m
   cost : (m : ℕ) → IsNumber work m → work.cost m ≤ MAX_COST
-  release : (m : ℕ) → IsNumber work m → work.floor m ≤ MAX_RELEASE
+  floor : (m : ℕ) → IsNumber work m → work.floor m ≤ MAX_RELEASE
   think : (m : ℕ) → IsNumber work m → work.think m ≤ MAX_THINK
   alone : version ≡ V1 → FollowsNone work
   no_release : version ≡ V1 → (m : ℕ) → IsNumber work m → work.floor m ≡ 0
@@ -89,7 +89,7 @@ modest trace is_trace =
       few = omega (arith, count, few_messages trace is_trace);
       some_cost = small.some_cost;
       cost = small.cost;
-      release = small.release;
+      floor = small.floor;
       think = λ m number. let timing = are.small (m - 1) no_timing (omega (arith, number.from, number.to)) in timing.think;
       alone = λ first. are.alone (first_is_early trace.version first);
       no_release = λ first m number.
@@ -139,7 +139,7 @@ module _ (version : Version) (before : Relation) (work : Work) (modest : IsModes
   release_of : (chain : List ℕ) → All (IsNumber work) chain → chain_release work chain ≤ MAX_RELEASE + length chain * MAX_THINK
   release_of [] numbers = omega arith
   release_of (m ∷ rest) numbers =
-      let first = modest.release m (All-head (IsNumber work) m rest numbers) in
+      let first = modest.floor m (All-head (IsNumber work) m rest numbers) in
       omega (arith, first, few_gaps work modest.think m rest (All-tail (IsNumber work) m rest numbers))
 
   no_release_of : version ≡ V1 → (chain : List ℕ) → All (IsNumber work) chain → chain_release work chain ≡ 0

@@ -26,7 +26,7 @@ use Rattle.waff_figures.specs.declared.figures.Figures.{Figures}
 use Rattle.waff_figures.specs.declared.grouping.Grouping.{Grouping}
 use Rattle.waff_figures.specs.declared.wait_rows.Row.{Row}
 use Rattle.waff_figures.specs.declared.waits.Wait.{Wait}
-use Rattle.waff_figures.proofs.FigureLaws.{waits_same}
+use Rattle.waff_figures.proofs.FigureLaws.{figures_moved}
 use Rattle.waff_figures.proofs.LeastLaws.{follows_in}
 use Rattle.waff_figures.proofs.WaitUnique.{alike_laws, rows_are_one}
 use Rattle.waff_inputs.proofs.SameInput.{told_is_one}
@@ -78,7 +78,7 @@ told_text rule workers grouping instance starts text are same adds planned told 
 }
 
 -- the plan is one
-same_plan : (rule : Rule) (instance : Instance) → IsSound instance → (workers : Option ℕ) (start other : ℕ → ℕ)
+pub same_plan : (rule : Rule) (instance : Instance) → IsSound instance → (workers : Option ℕ) (start other : ℕ → ℕ)
     → IsPlanFor rule instance workers start → IsPlanFor rule instance workers other → AreSame (work_of_instance instance) start other
 same_plan rule instance sound None start other p q = least_in_one instance sound start other p q
 same_plan rule instance sound (Some k) start other p q = rule_in_one instance sound rule k start other p q
@@ -104,30 +104,42 @@ module _ (rule : Rule) (instance : Instance) (sound : IsSound instance) (shortes
   abbrev work : Work
   work = work_of_instance instance
 
-  waits_listed : IsListed rule instance shortest line → line.workers ≡ limit → waits_of work start ≡ line.waits
-  waits_listed listed for =
+  -- the line has the figures of the plan with these starts
+  abbrev pub IsOfPlan : Type 0
+  IsOfPlan = (workers : Option ℕ) × (bound : ℕ) × AreFigures workers work bound start line
+
+  of_listed : IsListed rule instance shortest line → line.workers ≡ limit → IsOfPlan
+  of_listed listed for =
       let number : limit ≡ Some listed.k = sym for ∙ ap (λ (f : Figures). f.workers) listed.figures_are.are in
       let plan = subst (λ w. IsPlanFor rule instance w start) number planned in
       let same = rule_in_one instance sound rule listed.k start (start_of listed.starts) plan listed.list in
-      waits_same work (follows_in instance) start (start_of listed.starts) same ∙ sym (ap (λ (f : Figures). f.waits) listed.figures_are.are)
+      let bound = least_in (Some listed.k) instance shortest in
+      (Some listed.k, bound, figures_moved work (follows_in instance) start (start_of listed.starts) same (Some listed.k) bound line listed.figures_are)
 
-  waits_unlimited : (starts : List ℕ) → IsLeast (served_first instance (start_of starts)) work (start_of starts)
-      → AreFigures None work (least_in None instance shortest) (start_of starts) line → line.workers ≡ limit
-      → waits_of work start ≡ line.waits
-  waits_unlimited starts least figures for =
+  of_unlimited : (starts : List ℕ) → IsLeast (served_first instance (start_of starts)) work (start_of starts)
+      → AreFigures None work (least_in None instance shortest) (start_of starts) line → line.workers ≡ limit → IsOfPlan
+  of_unlimited starts least figures for =
       let number : limit ≡ None = sym for ∙ ap (λ (f : Figures). f.workers) figures.are in
       let plan = subst (λ w. IsPlanFor rule instance w start) number planned in
-      waits_same work (follows_in instance) start (start_of starts) (least_in_one instance sound start (start_of starts) plan least) ∙ sym (ap (λ (f : Figures). f.waits) figures.are)
+      let same = least_in_one instance sound start (start_of starts) plan least in
+      let bound = least_in None instance shortest in
+      (None, bound, figures_moved work (follows_in instance) start (start_of starts) same None bound line figures)
 
-  waits_in_line : (workers starts : List ℕ) (listed : List Figures) (unlimited : Figures) → IsLeast (served_first instance (start_of starts)) work (start_of starts)
+  pub line_of_plan : (workers starts : List ℕ) (listed : List Figures) (unlimited : Figures) → IsLeast (served_first instance (start_of starts)) work (start_of starts)
+      → AreListed rule instance shortest workers listed → AreFigures None work (least_in None instance shortest) (start_of starts) unlimited
+      → Contains (listed ++ unlimited ∷ []) line → line.workers ≡ limit → IsOfPlan
+  line_of_plan workers starts listed unlimited least each last has for = by (Contains-append_cases listed (unlimited ∷ []) line has)
+    where
+      by : Contains listed line ⊎ Contains (unlimited ∷ []) line → IsOfPlan
+      by (inl (i, inside, is)) = of_listed (subst (λ f. IsListed rule instance shortest f) is (each.each i line inside)) for
+      by (inr (zero, inside, is)) = of_unlimited starts least (subst (λ f. AreFigures None work (least_in None instance shortest) (start_of starts) f) is last) for
+      by (inr (suc i, inside, is)) = absurd (omega (arith, inside))
+
+  pub waits_in_line : (workers starts : List ℕ) (listed : List Figures) (unlimited : Figures) → IsLeast (served_first instance (start_of starts)) work (start_of starts)
       → AreListed rule instance shortest workers listed → AreFigures None work (least_in None instance shortest) (start_of starts) unlimited
       → Contains (listed ++ unlimited ∷ []) line → line.workers ≡ limit → waits_of work start ≡ line.waits
-  waits_in_line workers starts listed unlimited least each last has for = by (Contains-append_cases listed (unlimited ∷ []) line has)
-    where
-      by : Contains listed line ⊎ Contains (unlimited ∷ []) line → waits_of work start ≡ line.waits
-      by (inl (i, inside, is)) = waits_listed (subst (λ f. IsListed rule instance shortest f) is (each.each i line inside)) for
-      by (inr (zero, inside, is)) = waits_unlimited starts least (subst (λ f. AreFigures None work (least_in None instance shortest) (start_of starts) f) is last) for
-      by (inr (suc i, inside, is)) = absurd (omega (arith, inside))
+  waits_in_line workers starts listed unlimited least each last has for =
+      sym (ap (λ (f : Figures). f.waits) (line_of_plan workers starts listed unlimited least each last has for).2.are)
 
 pub waits_are_swept : (rule : Rule) (hierarchy_file trace_file : List ℕ) (limit : Option ℕ) (grouping : Grouping) → WaitsAreSwept rule hierarchy_file trace_file limit grouping
 waits_are_swept rule hierarchy_file trace_file limit grouping workers text sweep line p q has for =
@@ -135,6 +147,6 @@ waits_are_swept rule hierarchy_file trace_file limit grouping workers text sweep
     let told = p.told in
     let swept = told_swept rule hierarchy_file trace_file workers sweep instance p.accepts q in
     let work = work_of_instance instance in
-    told.adds_up
-    ∙ waits_in_line rule instance (is_sound hierarchy_file trace_file instance p.accepts) (length_of work (start_of q.told.starts)) limit (start_of told.starts) told.planned line workers q.told.starts q.told.listed q.told.unlimited
-    swept.0 swept.1 swept.2 has for
+    let of = line_of_plan rule instance (is_sound hierarchy_file trace_file instance p.accepts) (length_of work (start_of q.told.starts)) limit (start_of told.starts) told.planned line workers q.told.starts q.told.listed q.told.unlimited
+    swept.0 swept.1 swept.2 has for in
+    told.adds_up ∙ sym (ap (λ (f : Figures). f.waits) of.2.are)

@@ -7,6 +7,7 @@ pub mod Comparison
 pub mod DrawText
 pub mod Explanations
 pub mod Figures
+pub mod LimitsText
 pub mod ListOrder
 pub mod NeedsText
 pub mod OwnPlans
@@ -17,3 +18,6 @@ pub mod Rate
 pub mod ReplayText
 pub mod Unique
 pub mod WaitsText
+pub mod WhereText
+pub mod WhyText
+pub mod WorstText

@@ -1,7 +1,8 @@
 //! Writers that fail or take little, and readers that fail: what was written or read by then.
 
 use crate::same::are_same;
-use crate::sweeps::{SWEEP_H1_X1, WHERE_H1_X1, WHERE_H1_X1_NAMES};
+use crate::sweeps::SWEEP_H1_X1;
+use crate::wheres::{WHERE_H1_X1, WHERE_H1_X1_NAMES};
 use std::alloc::Global;
 use std::io::{self, Read, Write};
 use std::process::Abort;
@@ -13,10 +14,11 @@ use waff_samples::{
     STATE_H1_X1, X1,
 };
 use waff_tool::{
-    Grouping, Label, Part, Picture, ReadFault, ToolError, assign_text, assign_text_by_threads,
-    check_text, compare_text, compare_text_by_threads, draw_text, explain_text, needs_text,
-    plan_text, plan_text_by, rank_text, rate_text, read_whole, replay_text, sweep_text,
-    sweep_workers, waits_text, where_text,
+    Columns, Grouping, Label, Part, Picture, ReadFault, ToolError, assign_text,
+    assign_text_by_threads, check_text, compare_text, compare_text_by_threads, draw_text,
+    explain_text, limits_text, needs_text, plan_text, plan_text_by, rank_text, rate_text,
+    read_whole, replay_text, sweep_text, sweep_workers, waits_text, where_text, why_text,
+    worst_text,
 };
 
 /// The calls that write a text.
@@ -32,13 +34,17 @@ enum Call {
     CompareByThreads,
     Replay,
     Sweep,
+    Limits,
     Affinities,
     Names,
+    Figures,
     Picture,
     Events,
     Explain,
     Rate,
     Waits,
+    Worst,
+    Why,
     Needs,
     Rank,
 }
@@ -95,28 +101,49 @@ fn write_text<R: Threads + Wait + Sync>(
             compare_text_by_threads(rt, alloc, C1.as_bytes(), hierarchy, trace, 2, writer)
         }
         Call::Replay => replay_text(rt, alloc, hierarchy, trace, 2, writer),
-        Call::Sweep => {
-            sweep_text(
-                rt,
-                alloc,
-                hierarchy,
-                trace,
-                sweep_workers(),
-                Rule::Arrival,
-                writer,
-            )
-        }
-        Call::Affinities => where_text(rt, alloc, hierarchy, trace, None, writer),
-        Call::Names => where_text(rt, alloc, hierarchy, trace, Some(Label::Name), writer),
-        Call::Waits => {
-            let (workers, rule, grouping) = (Some(2), Rule::Arrival, Grouping::Name);
-            waits_text(rt, alloc, hierarchy, trace, workers, rule, grouping, writer)
-        }
         Call::Needs => needs_text(rt, alloc, hierarchy, trace, writer),
         Call::Rank => {
             let trees = [H1.as_bytes().to_vec(alloc)?, C1.as_bytes().to_vec(alloc)?];
             rank_text(rt, alloc, &trees, trace, 2, Rule::Longest, writer)
         }
+        _ => write_of_figures(rt, alloc, call, writer),
+    }
+}
+
+/// Writes the text of a call that tells of figures, else that of a call that takes a plan.
+fn write_of_figures<R: Threads + Sync>(
+    rt: &R,
+    alloc: Global,
+    call: Call,
+    writer: &mut Narrow,
+) -> Result<(), ToolError> {
+    let (hierarchy, trace) = (H1.as_bytes(), X1.as_bytes());
+    let (none, two, rule) = (None, Some(2), Rule::Arrival);
+    let (costs, names) = (Columns::Costs, Some(Label::Name));
+    match call {
+        Call::Sweep => {
+            let workers = sweep_workers();
+            sweep_text(rt, alloc, hierarchy, trace, workers, rule, writer)
+        }
+        Call::Limits => limits_text(rt, alloc, hierarchy, trace, &[2, 1], rule, writer),
+        Call::Affinities => {
+            where_text(rt, alloc, hierarchy, trace, none, rule, None, costs, writer)
+        }
+        Call::Names => where_text(
+            rt, alloc, hierarchy, trace, none, rule, names, costs, writer,
+        ),
+        Call::Figures => {
+            let figures = Columns::Figures;
+            where_text(
+                rt, alloc, hierarchy, trace, two, rule, names, figures, writer,
+            )
+        }
+        Call::Waits => {
+            let grouping = Grouping::Name;
+            waits_text(rt, alloc, hierarchy, trace, two, rule, grouping, writer)
+        }
+        Call::Worst => worst_text(rt, alloc, hierarchy, trace, two, rule, 1, writer),
+        Call::Why => why_text(rt, alloc, hierarchy, trace, Grouping::Name, writer),
         _ => write_of_plan(rt, alloc, call, writer),
     }
 }
@@ -255,6 +282,16 @@ fn leave_the_part_of_a_text_about_a_plan_that_was_taken(rt: HostRuntime) {
 #[test]
 fn leave_the_part_of_the_needs_that_was_taken(rt: HostRuntime) {
     are_given(&rt, rt.alloc(), &[Call::Needs]);
+}
+
+#[test]
+fn leave_the_part_of_what_limits_that_was_taken(rt: HostRuntime) {
+    are_given(&rt, rt.alloc(), &[Call::Limits, Call::Why]);
+}
+
+#[test]
+fn leave_the_part_of_figures_that_was_taken(rt: HostRuntime) {
+    are_given(&rt, rt.alloc(), &[Call::Figures, Call::Worst]);
 }
 
 #[test]

@@ -13,6 +13,8 @@ mod faults;
 #[cfg(test)]
 mod hostile_writes;
 #[cfg(test)]
+mod limits;
+#[cfg(test)]
 mod long_traces;
 #[cfg(test)]
 mod needs;
@@ -35,6 +37,12 @@ mod verdicts;
 #[cfg(test)]
 mod waits;
 #[cfg(test)]
+mod wheres;
+#[cfg(test)]
+mod whys;
+#[cfg(test)]
 mod words;
 #[cfg(test)]
 mod worker_plans;
+#[cfg(test)]
+mod worst;

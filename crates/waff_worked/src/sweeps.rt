@@ -1,4 +1,4 @@
-//! Sweeps over numbers of workers, and where the time goes.
+//! Sweeps over numbers of workers.
 
 ghost use Rattle.std.specs.Prelude.{All};
 ghost use Rattle.waff_plan.specs.Bound.{IsWorkers};
@@ -9,7 +9,7 @@ use std::process::Abort;
 use std::thread::Threads;
 use waff_list::Rule;
 use waff_samples::{H1, X1, X2};
-use waff_tool::{Label, sweep_text, sweep_workers, where_text};
+use waff_tool::{sweep_text, sweep_workers};
 
 /// The sweep of the first trace under the hierarchical sample.
 pub const SWEEP_H1_X1: &str = "workers,length,speedup,busy,least,over,waits,mean,p50,p99,latency\n\
@@ -75,25 +75,6 @@ const SWEEP_H1_X1_LONGEST: &str =
     3,9,1.88,0.62,9,1.00,17,5.66,5,9,9\n\
     -,9,1.88,-,9,1.00,17,5.66,5,9,9\n";
 
-/// Where the time of the first trace goes, by affinities.
-pub const WHERE_H1_X1: &str = "affinity,parent,messages,cost,below,chain\n\
-    Serial,-,1,1,17,1\n\
-    VolA,Serial,1,2,8,2\n\
-    VolB,Serial,0,0,8,0\n\
-    A0,VolA,2,6,6,6\n\
-    A1,VolA,0,0,0,0\n\
-    B0,VolB,1,3,3,0\n\
-    B1,VolB,1,5,5,0\n";
-
-/// And by names.
-pub const WHERE_H1_X1_NAMES: &str = "name,messages,cost,chain\n\
-    m1,1,4,4\n\
-    m2,1,3,0\n\
-    m3,1,2,2\n\
-    m4,1,5,0\n\
-    m5,1,1,1\n\
-    m6,1,2,2\n";
-
 /// The sweep of the trace by this rule has to be this.
 fn is_swept_by<R: Threads + Sync + Abort>(
     rt: &R,
@@ -142,21 +123,4 @@ fn of_workers(rt: HostRuntime) {
 fn by_the_longest_tails(rt: HostRuntime) {
     let text = SWEEP_H1_X1_LONGEST;
     is_swept_by(&rt, rt.alloc(), X1, Rule::Longest, &[1, 2, 3], text);
-}
-
-#[test]
-fn of_places(rt: HostRuntime) {
-    let (hierarchy, trace) = (H1.as_bytes(), X1.as_bytes());
-    for (label, text) in [
-        (None, WHERE_H1_X1),
-        (Some(Label::Name), WHERE_H1_X1_NAMES),
-        (
-            Some(Label::Client),
-            "client,messages,cost,chain\n-,6,17,9\n",
-        ),
-    ] {
-        let mut written = Vec::new(rt.alloc());
-        where_text(&rt, rt.alloc(), hierarchy, trace, label, &mut written).expect(&rt, "a text");
-        are_same(&rt, written.as_slice(), text.as_bytes());
-    }
 }

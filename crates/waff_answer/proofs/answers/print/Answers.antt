@@ -1,4 +1,4 @@
-use Rattle.std.proofs.Common.{◌≡◌, drop, refl}
+use Rattle.std.proofs.Common.{◌≡◌, [], drop, refl}
 use Rattle.std.specs.Prelude.{option_map, slice_get, unwrap_or}
 use Rattle.waff_io.specs.Split.{after_mark, before_mark}
 use Rattle.waff_figures.specs.Sweep.{sweep_workers}
@@ -7,13 +7,17 @@ use Rattle.waff_tool.specs.CheckText.{IsCheckText, status_after, verdict_text}
 use Rattle.waff_tool.specs.Comparison.{IsCompareText}
 use Rattle.waff_tool.specs.DrawText.{IsDrawText}
 use Rattle.waff_tool.specs.Explanations.{IsExplanation, status_explained}
-use Rattle.waff_tool.specs.Figures.{IsSweepText, IsWhereText}
+use Rattle.waff_tool.specs.Figures.{IsSweepText}
+use Rattle.waff_tool.specs.LimitsText.{IsLimitsText}
 use Rattle.waff_tool.specs.NeedsText.{IsNeedsText}
 use Rattle.waff_tool.specs.PlanText.{IsPlanText, IsPlanTextFor}
 use Rattle.waff_tool.specs.Ranks.{IsRankText}
 use Rattle.waff_tool.specs.Rate.{IsRateText}
 use Rattle.waff_tool.specs.ReplayText.{IsReplayText}
 use Rattle.waff_tool.specs.WaitsText.{IsWaitsText}
+use Rattle.waff_tool.specs.WhereText.{IsWhereText}
+use Rattle.waff_tool.specs.WhyText.{IsWhyText}
+use Rattle.waff_tool.specs.WorstText.{IsWorstText}
 use Rattle.waff_cli.specs.declared.words.Asked.TheVariants as asked
 use Rattle.waff_answer.specs.Answers.{bytes_of, first, picture_for, second, third}
 use Rattle.waff_answer.proofs.Answering.{answers_as, rest_is}
@@ -79,13 +83,25 @@ returns-in-Sweep g c =
     let rule = c.in-Sweep.rule in
     answers_as (λ _. 0) (λ _ text. IsSweepText rule (first files) (second files) (unwrap_or (option_map (λ numbers. numbers.items) given) sweep_workers) text) (asked.Sweep given rule) files _ _ _ _ _
     c.in-Sweep.is (λ _ text is. (refl, is)) c.printed-in-Sweep.ensures.written c.printed-in-Sweep.ensures.refused
-    (rw (c.file-first.ensures, c.file-second.ensures, c.swept-workers.ensures.numbers, c.as_slice-files.ensures.value) at c.sweep_text.ensures)
+    (rw (c.file-first.ensures, c.file-second.ensures, c.numbers_or-workers.ensures.numbers, c.sweep_workers.ensures.listed, c.as_slice-files.ensures.value) at c.sweep_text.ensures)
+
+pub returns-in-Limits : goal.returns-in-Limits
+returns-in-Limits g c =
+    let files = bytes_of c.args.question.now.files.items in
+    let given = c.in-Limits.given in
+    let rule = c.in-Limits.rule in
+    answers_as (λ _. 0) (λ _ text. IsLimitsText rule (first files) (second files) (unwrap_or (option_map (λ numbers. numbers.items) given) []) text) (asked.Limits given rule) files _ _ _ _ _
+    c.in-Limits.is (λ _ text is. (refl, is)) c.printed-in-Limits.ensures.written c.printed-in-Limits.ensures.refused
+    (rw (c.file-first.ensures, c.file-second.ensures, c.numbers_or-workers-in-Limits.ensures.numbers, c.as_slice-files.ensures.value) at c.limits_text.ensures)
 
 pub returns-in-Where : goal.returns-in-Where
 returns-in-Where g c =
     let files = bytes_of c.args.question.now.files.items in
+    let workers = c.in-Where.workers in
+    let rule = c.in-Where.rule in
     let label = c.in-Where.label in
-    answers_as (λ _. 0) (λ _ text. IsWhereText (first files) (second files) label text) (asked.Where label) files _ _ _ _ _
+    let columns = c.in-Where.columns in
+    answers_as (λ _. 0) (λ _ text. IsWhereText rule (first files) (second files) workers label columns text) (asked.Where workers rule label columns) files _ _ _ _ _
     c.in-Where.is (λ _ text is. (refl, is)) c.printed-in-Where.ensures.written c.printed-in-Where.ensures.refused
     (rw (c.file-first.ensures, c.file-second.ensures, c.as_slice-files.ensures.value) at c.where_text.ensures)
 
@@ -98,6 +114,24 @@ returns-in-Waits g c =
     answers_as (λ _. 0) (λ _ text. IsWaitsText rule (first files) (second files) workers grouping text) (asked.Waits workers rule grouping) files _ _ _ _ _
     c.in-Waits.is (λ _ text is. (refl, is)) c.printed-in-Waits.ensures.written c.printed-in-Waits.ensures.refused
     (rw (c.file-first.ensures, c.file-second.ensures, c.as_slice-files.ensures.value) at c.waits_text.ensures)
+
+pub returns-in-Worst : goal.returns-in-Worst
+returns-in-Worst g c =
+    let files = bytes_of c.args.question.now.files.items in
+    let workers = c.in-Worst.workers in
+    let rule = c.in-Worst.rule in
+    let most = c.in-Worst.most in
+    answers_as (λ _. 0) (λ _ text. IsWorstText rule (first files) (second files) workers most text) (asked.Worst workers rule most) files _ _ _ _ _
+    c.in-Worst.is (λ _ text is. (refl, is)) c.printed-in-Worst.ensures.written c.printed-in-Worst.ensures.refused
+    (rw (c.file-first.ensures, c.file-second.ensures, c.as_slice-files.ensures.value) at c.worst_text.ensures)
+
+pub returns-in-Why : goal.returns-in-Why
+returns-in-Why g c =
+    let files = bytes_of c.args.question.now.files.items in
+    let grouping = c.in-Why.grouping in
+    answers_as (λ _. 0) (λ _ text. IsWhyText (first files) (second files) grouping text) (asked.Why grouping) files _ _ _ _ _
+    c.in-Why.is (λ _ text is. (refl, is)) c.printed-in-Why.ensures.written c.printed-in-Why.ensures.refused
+    (rw (c.file-first.ensures, c.file-second.ensures, c.as_slice-files.ensures.value) at c.why_text.ensures)
 
 pub returns-in-Needs : goal.returns-in-Needs
 returns-in-Needs g c =

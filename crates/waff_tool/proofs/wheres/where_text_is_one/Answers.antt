@@ -1,4 +1,4 @@
-use Rattle.waff_tool.proofs.FigureUniqueness.{where_text_is_one}
+use Rattle.waff_tool.proofs.WhereTexts.{where_text_is_one}
 use Rattle.waff_tool.proofs.wheres.where_text_is_one.Goals as goal
 
 pub returns : goal.returns

@@ -1,0 +1,5 @@
+use Rattle.waff_model.proofs.OwnerLemmas.{space_below}
+use Rattle.waff_limits.proofs.cell_text.push_cell.Goals as goal
+
+pub space_name-requires : goal.space_name-requires
+space_name-requires c = space_below c.args.layout.now.spaces c.args.cell.space c.args.cell.index c.requires

@@ -1,0 +1,24 @@
+use Rattle.std.proofs.Common.{ℕ, List, [], ◌∷◌, ◌++◌, decimal, string_bytes, ◌∙◌, ap}
+use Rattle.std.proofs.lemmas.Result.{on_ok_weaker}
+use Rattle.waff_read.specs.Spellings.{cell_spelled}
+use Rattle.waff_assign.specs.Order.{affinity_name}
+use Rattle.waff_limits.specs.WhyLines.{owner_name}
+use Rattle.waff_limits.proofs.WhyFields.{first_field}
+use Rattle.waff_limits.proofs.why_text.push_affinity_row.Goals as goal
+
+pub returns : goal.returns
+returns c =
+    let row = c.args.row.now in
+    let laid = c.args.laid.now in
+    let layout = laid.layout.now in
+    let assigned = laid.case.assigned.now in
+    let fields : List (List ℕ) = owner_name layout row.first.other ∷ decimal row.messages ∷ decimal row.cost ∷ decimal row.first.message
+    ∷ cell_spelled layout.spaces row.first.cell ∷ cell_spelled layout.spaces row.first.other ∷ [] in
+    let before : List ℕ = string_bytes c.args.text.now in
+    let one : List ℕ = string_bytes c.push_name.new.text in
+    let now : List ℕ = string_bytes c.push_fields.new.text in
+    on_ok_weaker c.push_fields.result (λ more.
+    first_field before one now (affinity_name layout.tree assigned row.first.message) (owner_name layout row.first.cell) fields
+    (c.in_ok-push_name.ensures
+    ∙ ap (λ n. before ++ (n ++ 44 ∷ [])) (c.affinity_name.ensures ∙ ap (λ t. affinity_name t assigned row.first.message) laid.tree)) more)
+    c.push_fields.ensures

@@ -1,0 +1,10 @@
+use Rattle.std.proofs.Common.{◌≡◌, ◌++◌, map, string_bytes, take}
+use Rattle.waff_plan_text.specs.Lines.{text_of}
+use Rattle.waff_figures.specs.ByName.{message_names}
+use Rattle.waff_limits.specs.WhyLines.{why_row}
+use Rattle.waff_limits.proofs.why_text.push_rows.Given as goal
+
+abbrev pub invariant-loop-row : goal.invariant-loop-row
+invariant-loop-row l =
+    string_bytes l.text ≡ string_bytes l.initial.text
+    ++ text_of (map (why_row l.grouping l.laid.layout.now l.laid.case.assigned.now (message_names l.laid.case.trace.now.messages)) (take l.row-index l.rows))

@@ -1,0 +1,78 @@
+-- Messages that run above the owner of their own first cell, and the two cells that lift each so high.
+use Rattle.std.specs.Prelude.{◌≡◌, ◌≢◌, ℕ, ◌<◌, ◌⊎◌, List, [], ◌∷◌, All, AllPairs, Contains, Option, Some, None, length}
+use Rattle.waff_model.specs.Layout.{Hierarchy, IsCell, Space, owner_of}
+use Rattle.waff_model.specs.Numbers.{IsAmongFirst}
+use Rattle.waff_model.specs.Tree.{AtOrAbove}
+use Rattle.waff_model.specs.declared.cell.Cell.{Cell}
+use Rattle.waff_model.specs.declared.message.Message.{Message}
+use Rattle.waff_assign.specs.Lowest.{IsInFootprint, IsLowest}
+use Rattle.waff_assign.specs.Order.{affinity_of}
+use Rattle.waff_plan.specs.Timetable.{message_of}
+use Rattle.waff_limits.specs.Data.{ComesBefore}
+use Rattle.waff_limits.specs.declared.lifted.Lift.{Lift}
+
+-- the first of some cells: one of them, before which none of them comes
+pub record IsFirst (Has : Cell → Type 0) (first : Cell) : Type 0 where
+  pub has : Has first
+  pub before : (other : Cell) → Has other → (first ≡ other) ⊎ ComesBefore first other
+
+-- a is the lowest affinity at or above the owners of two cells
+abbrev pub IsLowestOfTwo : Hierarchy → ℕ → Cell → Cell → Type 0
+IsLowestOfTwo layout a cell other = IsLowest layout (Contains (cell ∷ other ∷ [])) a
+
+-- the two cells that lift what uses these cells to a: the first of them, and the first such that a is
+-- the lowest at or above the owners of the two
+pub record AreLifting (layout : Hierarchy) (Has : Cell → Type 0)
+    (a : ℕ) (cell other : Cell) : Type 0 where
+  pub first : IsFirst Has cell
+  pub lifting : IsFirst (λ another. Has another × IsLowestOfTwo layout a cell another) other
+
+-- the cells that message n uses
+abbrev pub IsUsedBy : List Message → ℕ → Cell → Type 0
+IsUsedBy messages n cell = IsInFootprint (message_of messages n).ops cell
+
+-- message n is lifted: its affinity is not the owner of its first cell
+pub record IsLifted (layout : Hierarchy)
+    (messages : List Message) (assigned : List ℕ) (n : ℕ) : Type 0 where
+  pub number : IsAmongFirst (length messages) n
+  pub cell : Cell
+  pub first : IsFirst (IsUsedBy messages n) cell
+  pub above : affinity_of assigned n ≢ owner_of layout.spaces cell
+
+-- what is told of a message that is lifted: its cost, and the two cells that lift it
+pub record IsLift (layout : Hierarchy)
+    (messages : List Message) (assigned : List ℕ) (lift : Lift) : Type 0 where
+  pub number : IsAmongFirst (length messages) lift.message
+  pub cost : lift.cost ≡ (message_of messages lift.message).cost
+  pub cells : AreLifting layout (IsUsedBy messages lift.message)
+      (affinity_of assigned lift.message) lift.cell lift.other
+  pub above : affinity_of assigned lift.message ≢ owner_of layout.spaces lift.cell
+
+-- the lift is of one of so many messages, and its cells lie in the spaces
+pub record IsTold (spaces : List Space) (messages : ℕ) (lift : Lift) : Type 0 where
+  pub message : IsAmongFirst messages lift.message
+  pub cell : IsCell spaces lift.cell
+  pub other : IsCell spaces lift.other
+
+-- it is told of each message that is lifted, in the order of arrival
+pub record AreLifts (layout : Hierarchy)
+    (messages : List Message) (assigned : List ℕ) (lifts : List Lift) : Type 0 where
+  pub each : All (IsLift layout messages assigned) lifts
+  pub all : (n : ℕ) → IsLifted layout messages assigned n
+      → (lift : Lift) × Contains lifts lift × (lift.message ≡ n)
+  pub order : AllPairs (λ one other. one.message < other.message) lifts
+
+-- the owner of the cell is not at or below the affinity, if there is one
+abbrev pub IsOutside : Hierarchy → Option ℕ → Cell → Type 0
+IsOutside layout None cell = Unit {0}
+IsOutside layout (Some a) cell = ¬ AtOrAbove layout.tree a (owner_of layout.spaces cell)
+
+-- of those cells of a list the first, if there is one
+abbrev pub IsFirstAmong : List Cell → (Cell → Type 0) → Option Cell → Type 0
+IsFirstAmong cells IsMeant None = (cell : Cell) → Contains cells cell → ¬ IsMeant cell
+IsFirstAmong cells IsMeant (Some first) = IsFirst (λ cell. Contains cells cell × IsMeant cell) first
+
+-- the cell comes before the one that is the first so far, if there is one
+abbrev pub IsSooner : Option Cell → Cell → Type 0
+IsSooner None cell = Unit {0}
+IsSooner (Some first) cell = ComesBefore cell first

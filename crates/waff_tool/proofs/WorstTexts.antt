@@ -1,0 +1,77 @@
+-- What was told of the worst messages of a plan is the text of the files, and there is one.
+use Rattle.std.proofs.Common.{◌≡◌, ℕ, List, ◌∷◌, Option, sym, ◌∙◌, ap, subst}
+use Rattle.waff_model.specs.Unique.{AtMostOne}
+use Rattle.waff_model.specs.declared.message.Version.{Version}
+use Rattle.waff_assign.specs.Instance.{Instance}
+use Rattle.waff_plan.specs.Instances.{work_of_instance}
+use Rattle.waff_plan.specs.Serving.{started_before}
+use Rattle.waff_plan.specs.Timetable.{timings_of}
+use Rattle.waff_plan.specs.Timing.{start_of, work_of}
+use Rattle.waff_plan.specs.Waited.{AreWaitedFor}
+use Rattle.waff_plan.specs.Work.{length_of}
+use Rattle.waff_plan.specs.declared.timing.Timing.{Timing}
+use Rattle.waff_list.specs.declared.rule.Rule.{Rule}
+use Rattle.waff_plan_text.specs.Lines.{text_of}
+use Rattle.waff_figures.specs.Figures.{latency_of}
+use Rattle.waff_figures.specs.Worst.{AreWorst}
+use Rattle.waff_figures.specs.WorstText.{worst_lines}
+use Rattle.waff_figures.specs.declared.figures.Figures.{Figures}
+use Rattle.waff_figures.proofs.LeastLaws.{follows_in}
+use Rattle.waff_figures.proofs.WorstLaws.{first_is_greatest, worst_lines_are_one}
+use Rattle.waff_inputs.proofs.SameInput.{told_is_one}
+use Rattle.waff_tool.specs.WaitsText.{IsPlanFor}
+use Rattle.waff_tool.specs.WorstText.{IsWorstText, TellsWorst, WorstIsSwept}
+use Rattle.waff_tool.proofs.FigureUniqueness.{told_swept}
+use Rattle.waff_tool.proofs.PlanUniqueness.{IsSound, count_in}
+use Rattle.waff_tool.proofs.TextUniqueness.{is_sound}
+use Rattle.waff_tool.proofs.WaitsTexts.{line_of_plan, same_plan}
+
+-- what is told of a plan of this version with these timings and starts
+abbrev pub IsTold : ℕ → Instance → Version → List Timing → List ℕ → List ℕ → Type 0
+IsTold most instance version timings starts text =
+    (waited : List (Option ℕ)) × (worst : List ℕ)
+    × AreWaitedFor (started_before version instance.tree instance.assigned (start_of starts)) (work_of timings) (start_of starts) (work_of timings).count waited
+    × AreWorst most (work_of timings).count (latency_of (work_of timings) (start_of starts)) worst
+    × (text ≡ text_of (worst_lines instance.tree instance.assigned instance.trace.messages (work_of timings) (start_of starts) waited worst))
+
+pub told_text : (rule : Rule) (workers : Option ℕ) (most : ℕ) (instance : Instance) (version : Version) (timings : List Timing) (starts text : List ℕ)
+    → version ≡ instance.trace.version → timings ≡ timings_of instance.trace.messages → IsPlanFor rule instance workers (start_of starts)
+    → IsTold most instance version timings starts text → TellsWorst rule workers most instance text
+told_text rule workers most instance version timings starts text same_version same_timings planned told =
+    let of = subst (λ v. IsTold most instance v (timings_of instance.trace.messages) starts text) same_version
+    (subst (λ ts. IsTold most instance version ts starts text) same_timings told) in
+    record {
+      starts = starts;
+      waited = of.0;
+      worst = of.1;
+      planned = planned;
+      are_waited = of.2;
+      are_worst = of.3;
+      lines = of.4;
+    }
+
+worst_are_one : (rule : Rule) (workers : Option ℕ) (most : ℕ) (instance : Instance) → IsSound instance
+    → AtMostOne (TellsWorst rule workers most instance)
+worst_are_one rule workers most instance sound text other p q =
+    let plans = same_plan rule instance sound workers (start_of p.starts) (start_of q.starts) p.planned q.planned in
+    let lines = worst_lines_are_one instance.trace.version instance.tree instance.assigned instance.trace.messages (work_of_instance instance)
+    (count_in instance sound) (follows_in instance) (start_of p.starts) (start_of q.starts) plans most p.waited q.waited p.worst q.worst
+    p.are_waited q.are_waited p.are_worst q.are_worst in
+    p.lines ∙ ap text_of lines ∙ sym q.lines
+
+pub worst_text_is_one : (rule : Rule) (hierarchy_file trace_file : List ℕ) (workers : Option ℕ) (most : ℕ)
+    → AtMostOne (IsWorstText rule hierarchy_file trace_file workers most)
+worst_text_is_one rule hierarchy_file trace_file workers most = told_is_one (TellsWorst rule workers most) hierarchy_file trace_file
+    (λ i accepts. worst_are_one rule workers most i (is_sound hierarchy_file trace_file i accepts))
+
+pub worst_is_swept : (rule : Rule) (hierarchy_file trace_file : List ℕ) (limit : Option ℕ) (most : ℕ) → WorstIsSwept rule hierarchy_file trace_file limit most
+worst_is_swept rule hierarchy_file trace_file limit most workers text sweep rest first line p q has for worst =
+    let instance = p.instance in
+    let told = p.told in
+    let swept = told_swept rule hierarchy_file trace_file workers sweep instance p.accepts q in
+    let work = work_of_instance instance in
+    let start = start_of told.starts in
+    let of = line_of_plan rule instance (is_sound hierarchy_file trace_file instance p.accepts) (length_of work (start_of q.told.starts)) limit start told.planned line workers q.told.starts q.told.listed q.told.unlimited
+    swept.0 swept.1 swept.2 has for in
+    first_is_greatest work start most first rest (subst (AreWorst most work.count (latency_of work start)) worst told.are_worst)
+    ∙ sym (ap (λ (f : Figures). f.latency) of.2.are)
