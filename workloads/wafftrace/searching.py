@@ -1,245 +1,219 @@
 """A search for a tree: one change after another, each the best one, until none gains."""
 
 import itertools
-from collections.abc import Callable, Iterator
-from dataclasses import dataclass, replace
+from collections.abc import Callable, Iterable
+from dataclasses import dataclass, field, replace
 
-from . import limits
+from .deals import Bound, Changes, Deal, homes_of, units_of
 from .hierarchy import Tree
-from .logs import Refusal, tell
-from .model import power_from
+from .ranking import Order, Ranker, Row
 
-COUNTS = (1, 2, 3, 4, 6, 8, 12, 16, 24, 32, 48, 64)
-# How many affinities of its own a space gets where it goes elsewhere; what follows tries other numbers.
-MOVED_COUNTS = (1, 4, 16, 64)
-PAIRED_COUNT = 16
-# A unit is at most so many times the largest request.
-REQUESTS_A_UNIT = 16
 MOST_ROUNDS = 20
+# From so many of the best changes of two spaces a search goes on.
+LEAPS = 3
+# With so few affinities at most there is time for more.
+FEW = 8
+FEW_LEAPS = 12
+# How many affinities of their own the spaces have in other trees from which it begins.
+START_COUNTS = (1, 2, 4)
+NONE_OWN = "all spaces: none of their own"
+# For how many affinities a curve has the best tree.
+CAPS = (4, 8, 12, 16, 24, 32, 48, 64)
 
 
 @dataclass(slots=True)
-class Figures:
-    """What the program tells of a tree's list plan: its length, how long its messages wait in all, their mean latency, and the one
-    that 99 of 100 are at most."""
+class Found:
+    """A tree, the change that made it, and its figures."""
 
-    length: int
-    waits: int
-    mean: str
-    p99: int
-
-    @staticmethod
-    def of(row: dict[str, str]) -> "Figures":
-        return Figures(int(row["list"]), int(row["waits"]), row["mean"], int(row["p99"]))
-
-
-# The figures of a tree for each number of workers.
-Row = tuple[Figures, ...]
-
-
-@dataclass(slots=True)
-class Group:
-    """Affinities that spaces are dealt out to: leaves below one affinity, or one affinity with others below it (`is_inner`)."""
-
-    parent: str | None
-    names: tuple[str, ...]
-    stem: str
-    is_inner: bool
-
-    def of(self, count: int) -> "Group":
-        """The group with so many affinities, named alike."""
-        names = self.names if count == len(self.names) else tuple(f"{self.stem}{n}" for n in range(count))
-        return Group(self.parent, names, self.stem, False)
-
-
-@dataclass(frozen=True, slots=True)
-class Place:
-    """Below this affinity, which stays or is the only one of its own of a space."""
-
-    affinity: str
-    space: str | None
-
-
-# What is changed, in words, and what it comes to.
-Changes = Iterator[tuple[str, "Deal"]]
-
-
-@dataclass(slots=True)
-class Deal:
-    """How the spaces of a tree are dealt out: the affinities that stay, the groups by name, and the group and unit of each space."""
-
+    what: str
+    deal: Deal
     tree: Tree
-    kept: dict[str, str | None]
-    groups: dict[str, Group]
-    spaces: dict[str, tuple[str, int]]
+    row: Row
 
-    @staticmethod
-    def of(tree: Tree) -> "Deal":
-        parents = tree.parents
-        above = set(parents.values())
-        groups: dict[str, Group] = {}
-        spaces = {}
-        for space, (unit, owners) in tree.maps.items():
-            names = tuple(owners)
-            is_inner = len(names) == 1 and (names[0] in above or parents[names[0]] is None)
-            is_striped = len({parents[it] for it in names}) == 1 and len(set(names)) == len(names) and not set(names) & above
-            if not is_inner and not is_striped:
-                raise Refusal(3, f"{space}: its affinities are neither one nor leaves below one, and a search changes no other trees")
-            groups.setdefault(names[0], Group(parents[names[0]], names, names[0].rstrip("0123456789"), is_inner))
-            if groups[names[0]].names != names:
-                raise Refusal(3, f"{space}: its affinities are some of another space's, and a search changes no such trees")
-            spaces[space] = names[0], unit
-        leaves = {name for group in groups.values() if not group.is_inner for name in group.names}
-        return Deal(tree, {name: parent for name, parent in parents.items() if name not in leaves}, groups, spaces)
-
-    def built(self) -> Tree | None:
-        """The tree, None where it can have no such names, or not be classical any more."""
-        used = dict.fromkeys(name for name, _ in self.spaces.values())
-        parents = dict(self.kept)
-        waiting = [self.groups[it] for it in used if not self.groups[it].is_inner]
-        # A group may stand below an affinity of another one.
-        while waiting:
-            ready = [it for it in waiting if it.parent in parents]
-            if not ready:
-                return None
-            for group in ready:
-                if any(name in parents or len(name) > limits.NAME for name in group.names):
-                    return None
-                parents |= dict.fromkeys(group.names, group.parent)
-            waiting = [it for it in waiting if it not in ready]
-        # A classical tree is a root with leaves.
-        root = next(iter(parents))
-        if self.tree.model == "classical" and any(parent not in (None, root) for parent in parents.values()):
-            return None
-        maps = {space: (unit, list(self.groups[name].names)) for space, (name, unit) in self.spaces.items()}
-        return self.tree.changed(parents, maps)
-
-    def with_unit(self, space: str, unit: int) -> "Deal":
-        return replace(self, spaces={**self.spaces, space: (self.spaces[space][0], unit)})
-
-    def with_count(self, space: str, count: int) -> "Deal":
-        name = self.spaces[space][0]
-        return replace(self, groups={**self.groups, name: self.groups[name].of(count)})
-
-    def with_own(self, space: str, count: int, parent: str | None = None) -> "Deal":
-        """The space has so many affinities of its own, beside those that it had, or below the one that it had, or below `parent`."""
-        name, unit = self.spaces[space]
-        group = self.groups[name]
-        parent = parent or (group.names[0] if group.is_inner else group.parent)
-        own = Group(parent, tuple(f"{space}{n}" for n in range(count)), space, False)
-        return replace(self, groups={**self.groups, space: own}, spaces={**self.spaces, space: (space, unit)})
-
-    def changes(self, space: str, units: list[int]) -> Changes:
-        """What may be changed for a space, in words, and the deal after it."""
-        name, unit = self.spaces[space]
-        for other in units:
-            if other != unit:
-                yield f"{space}: unit {other}", self.with_unit(space, other)
-        group = self.groups[name]
-        shared = sum(it == name for it, _ in self.spaces.values()) > 1
-        for count in COUNTS:
-            if not group.is_inner and count != len(group.names):
-                yield f"{name}: {count} of it", self.with_count(space, count)
-            if group.is_inner or shared:
-                yield f"{space}: {count} of its own", self.with_own(space, count)
-
-    def places(self, space: str, spaces: list[str]) -> list[Place]:
-        """Where a space may have affinities of its own: below each that stays, and below the one of its own of another space."""
-        return [Place(it, None) for it in self.kept] + [Place(f"{it}0", it) for it in spaces if it != space]
-
-    def placed(self, space: str, count: int, place: Place) -> "Deal":
-        """The space has so many affinities of its own there. Another space that it is below has one of its own."""
-        deal = self if place.space is None else self.with_own(place.space, 1)
-        return deal.with_own(space, count, place.affinity)
-
-    def moves(self, space: str, spaces: list[str]) -> Changes:
-        """What may be changed for a space if it goes elsewhere."""
-        for place, count in itertools.product(self.places(space, spaces), MOVED_COUNTS):
-            yield told(space, count, place), self.placed(space, count, place)
-
-    def pairs(self, spaces: list[str]) -> Changes:
-        """What may be changed for two spaces that go elsewhere together."""
-        for space, other in itertools.combinations(spaces, 2):
-            places = itertools.product(self.places(space, spaces), self.places(other, spaces))
-            for one, two in places:
-                deal = self.placed(space, PAIRED_COUNT, one).placed(other, PAIRED_COUNT, two)
-                yield f"{told(space, PAIRED_COUNT, one)}; {told(other, PAIRED_COUNT, two)}", deal
+    def count(self) -> int:
+        return len(self.tree.parents)
 
 
-def told(space: str, count: int, place: Place) -> str:
-    above = f"below {place.affinity}" if place.space is None else f"below the only one of {place.space}"
-    return f"{space}: {count} of its own {above}"
+# A tree without figures yet.
+Made = tuple[str, Deal, Tree]
+# The figures that are compared, the least first; each affinity makes them larger by its price.
+Priced = tuple[float, ...]
 
 
-def units_of(tree: Tree, space: str, longest: int) -> list[int]:
-    """The units that are tried for a space: powers of two up to its size and so many times the largest request."""
-    most = min(power_from(tree.sizes[space]), power_from(longest * REQUESTS_A_UNIT))
-    return [1 << n for n in range(most.bit_length())]
+@dataclass(slots=True)
+class Search:
+    """A search of trees for some spaces, each of which stays within its bound. `price` is the part of a figure that an affinity has to
+    gain, `most` how many there may be, and at `enough` of the figure that decides the search ends."""
 
+    spaces: list[str]
+    longest: int
+    bounds: list[Bound]
+    ranker: Ranker
+    order: Order
+    price: float
+    most: int
+    enough: float
+    # What is done after each change.
+    on_change: Callable[[Found], None] = lambda _found: None
+    steps: list[Found] = field(default_factory=list)
+    # For each number of affinities the best tree that was planned.
+    best: dict[int, Found] = field(default_factory=dict)
 
-def bounds_of(tree: Tree, spaces: list[str]) -> dict[str, str]:
-    """For each of these spaces the highest affinity above all of it that another space is mapped to, as that of a volume as a whole: it
-    stays above it."""
-    fixed = {owner for space, (_, owners) in tree.maps.items() if space not in spaces for owner in owners}
-    found: dict[str, str] = {}
-    for space in spaces:
-        above = [it for it in tree.way(tree.lowest(tree.maps[space][1])) if it in fixed]
-        found |= {space: above[-1]} if above else {}
-    return found
+    def begin(self, tree: Tree) -> bool:
+        """Takes this tree as the first, and behind it, where it has too many affinities, the one without those that may go. False where
+        that has too many as well."""
+        self.steps += self.planned([("-", Deal.of(tree), tree)])
+        if self.steps[0].count() > self.most:
+            self.steps += self.planned(self.least())
+        return self.steps[-1].count() <= self.most
 
+    def least(self) -> list[Made]:
+        """The tree in which no space has affinities of its own, if it may be made."""
+        first = self.steps[0]
+        return self.built([(NONE_OWN, first.deal.apart(homes_of(first.tree, self.spaces), 0))])
 
-def is_within(tree: Tree, bounds: dict[str, str]) -> bool:
-    """Whether each of these spaces is below the affinity that it has to be below."""
-    return all(above in tree.way(it) for space, above in bounds.items() for it in tree.maps[space][1])
+    def improve(self) -> None:
+        """Goes on from the last tree, and from other ones, each time by the best change of a space, or of two together, until none gains or
+        it is enough."""
+        self.rise(self.steps[-1], self.note)
+        if not self.spaces or self.is_enough(self.steps[-1]):
+            return
+        for start in self.planned(self.starts()):
+            if not self.is_enough(self.steps[-1]):
+                self.follow(start)
+        while self.leap():
+            pass
 
-
-def changes_of(deal: Deal, space: str | None, spaces: list[str], longest: int) -> Changes:
-    """What is tried for a space, or for two together."""
-    if space is None:
-        return deal.pairs(spaces)
-    return itertools.chain(deal.changes(space, units_of(deal.tree, space, longest)), deal.moves(space, spaces))
-
-
-def gains(figures: tuple[int, ...], old: tuple[int, ...]) -> bool:
-    """Whether the first of these figures is less by a thousandth, or a later one by a hundredth while none before it is more. What gains
-    less is as good for this log alone."""
-    for new, before, parts in zip(figures, old, (1000, 100, 100), strict=True):
-        if parts * new <= (parts - 1) * before and new < before:
-            return True
-        if new > before:
+    def leap(self) -> bool:
+        """Changes two spaces together, in the ways that are best, and goes on from each, until one gains."""
+        at = self.steps[-1]
+        if self.is_enough(at):
             return False
-    return False
+        changes = itertools.chain(at.deal.trades(self.spaces), at.deal.pairs(self.spaces, self.is_few()))
+        # Of trees with the same figures one is enough.
+        found = {self.priced(it, at): it for it in reversed(self.planned(self.built(changes)))}
+        return any(self.follow(found[it]) for it in sorted(found)[: FEW_LEAPS if self.is_few() else LEAPS])
 
+    def starts(self) -> list[Made]:
+        """Other trees from which a search may begin: all spaces have as many affinities of their own, or the same ones."""
+        deal, tree = self.steps[0].deal, self.steps[0].tree
+        homes = homes_of(tree, self.spaces)
+        found = [(NONE_OWN, deal.apart(homes, 0))]
+        for places in [homes, dict.fromkeys(homes, next(iter(tree.parents)))] if self.is_few() else [homes]:
+            for count in START_COUNTS if self.is_few() else START_COUNTS[-1:]:
+                found.append((f"all spaces: {count} of their own", deal.apart(places, count)))
+                found.append((f"all spaces: the same {count}", deal.together(places, count)))
+        return self.built(found)
 
-def search(
-    tree: Tree,
-    spaces: list[str],
-    longest: int,
-    rank: Callable[[list[Tree]], list[Row]],
-    order: Callable[[Row], tuple[int, ...]],
-) -> tuple[list[tuple[str, Row]], Tree]:
-    """The changes for these spaces, each with the figures after it, and the tree at the end. `rank` tells the figures of trees;
-    `order` compares them, the least first."""
-    deal = Deal.of(tree)
-    built = deal.built() or tree
-    bounds = bounds_of(tree, spaces)
-    (best,) = rank([tree])
-    steps, count = [("-", best)], 1
-    for _ in range(MOST_ROUNDS):
-        before = len(steps)
-        for space in [*spaces, None]:
-            changes = changes_of(deal, space, spaces, longest)
-            found = [(what, other, made) for what, other in changes if (made := other.built()) is not None and is_within(made, bounds)]
-            figures = rank([made for _, _, made in found])
-            count += len(found)
-            better = [n for n, row in enumerate(figures) if gains(order(row), order(best))]
-            at = min(better, key=lambda n: (order(figures[n]), len(found[n][2].parents)), default=None)
-            if at is not None:
-                what, deal, built = found[at]
-                best = figures[at]
-                steps.append((what, best))
-                tell(f"{what}: " + "; ".join(f"length {it.length}, mean {it.mean}" for it in best))
-        if len(steps) == before:
-            break
-    tell(f"{count} trees were planned")
-    return steps, built
+    def note(self, found: Found) -> None:
+        self.steps.append(found)
+        self.on_change(found)
+
+    def follow(self, start: Found) -> bool:
+        """Goes on from another tree, and takes the steps of the way that gain, if its end does."""
+        way = [start]
+        self.rise(start, way.append)
+        if not self.gains(way[-1], self.steps[-1]):
+            return False
+        passed: list[str] = []
+        for it in way:
+            passed.append(it.what)
+            if self.gains(it, self.steps[-1]):
+                self.note(replace(it, what="; ".join(passed)))
+                passed = []
+        return True
+
+    def is_few(self) -> bool:
+        return self.most <= FEW
+
+    def is_enough(self, at: Found) -> bool:
+        return self.order(at.row)[0] <= self.enough
+
+    def rise(self, at: Found, note: Callable[[Found], None]) -> None:
+        """Makes the best change of a space, or of the numbers of two, one after another, until none gains or it is enough."""
+        for _ in range(MOST_ROUNDS):
+            before = at
+            for space in [*self.spaces, None]:
+                if self.is_enough(at):
+                    return
+                made = self.changed(at, self.changes_of(at.deal, space), self.gains)
+                if made:
+                    at = made
+                    note(at)
+            if at is before:
+                return
+
+    def lessen(self) -> None:
+        """Takes away what is not worth its price, one after another."""
+        while made := self.changed(self.steps[-1], self.steps[-1].deal.fewer(self.spaces), self.is_worth):
+            self.note(made)
+
+    def climb(self) -> None:
+        """Searches with each cap for the tree of the best figures, whatever its affinities' price: `best` has what is found."""
+        steps, most = self.steps, self.most
+        self.price, self.on_change = 0.0, lambda _found: None
+        self.planned(self.least())
+        try:
+            for cap in (it for it in CAPS if it <= most):
+                self.most = cap
+                self.steps = [it for it in [self.best_of(cap)] if it]
+                if self.steps:
+                    self.improve()
+        finally:
+            self.steps, self.most = steps, most
+
+    def best_of(self, cap: int) -> Found | None:
+        """The best tree that was planned of at most so many affinities."""
+        found = [it for count, it in self.best.items() if count <= cap]
+        return min(found, key=lambda it: (self.order(it.row), it.count())) if found else None
+
+    def curve(self) -> list[tuple[int, Found | None]]:
+        """The best tree that was planned for each cap."""
+        return [(cap, self.best_of(cap)) for cap in CAPS if cap <= self.most]
+
+    def changed(self, at: Found, changes: Changes, is_better: Callable[[Found, Found], bool]) -> Found | None:
+        """The best of these changes, if one is better."""
+        better = [it for it in self.planned(self.built(changes)) if is_better(it, at)]
+        return min(better, key=lambda it: (self.priced(it, at), it.count())) if better else None
+
+    def changes_of(self, deal: Deal, space: str | None) -> Changes:
+        """What is tried for a space, or for two that stay where they are."""
+        if space is None:
+            return deal.trades(self.spaces)
+        units = units_of(deal.tree, space, self.longest)
+        return itertools.chain(deal.changes(space, units), deal.moves(space, self.spaces, units, self.is_few()))
+
+    def built(self, changes: Iterable[tuple[str, Deal]]) -> list[Made]:
+        """The trees of changes that may be made."""
+        may_be = ((what, deal) for what, deal in changes if deal.least_count() <= self.most and deal.is_within(self.bounds))
+        found = ((what, deal, deal.built()) for what, deal in may_be)
+        return [(what, deal, tree) for what, deal, tree in found if tree is not None and len(tree.parents) <= self.most]
+
+    def planned(self, made: list[Made]) -> list[Found]:
+        """Trees with their figures."""
+        rows = self.ranker.rank([tree for _, _, tree in made])
+        found = [Found(*it, row) for it, row in zip(made, rows, strict=True)]
+        for it in found:
+            old = self.best.get(it.count())
+            if old is None or self.order(it.row) < self.order(old.row):
+                self.best[it.count()] = it
+        return found
+
+    def priced(self, new: Found, old: Found) -> Priced:
+        """The figures of a tree, with the price of the affinities that it has more."""
+        return tuple(it * (1 + self.price) ** max(0, new.count() - old.count()) for it in self.order(new.row))
+
+    def gains(self, new: Found, old: Found) -> bool:
+        """Whether the first of the figures is less by a thousandth, or a later one by a hundredth while none before it is more. What gains
+        less is as good for this log alone."""
+        for figure, before, least in zip(self.priced(new, old), self.order(old.row), (1000, 100, 100), strict=True):
+            if least * figure <= (least - 1) * before and figure < before:
+                return True
+            if figure > before:
+                return False
+        return False
+
+    def is_worth(self, new: Found, old: Found) -> bool:
+        """Whether a tree has fewer affinities, and no figure loses as much as these cost."""
+        figures = zip(self.order(new.row), self.priced(old, new), strict=True)
+        return new.count() < old.count() and all(figure <= priced for figure, priced in figures)

@@ -1,26 +1,35 @@
-"""Trees with other numbers of stripes and other units, and how the proved program plans a trace under each."""
+"""Trees with other numbers of stripes and other units, or of a search, and how the proved program plans traces under each."""
 
 import argparse
-import csv
 import itertools
-import os
 import re
+import signal
+import sys
 import tempfile
+import time
 from argparse import ArgumentParser, Namespace
 from collections.abc import Callable
+from dataclasses import replace
+from fractions import Fraction
 
 from . import limits
-from .calls import Job, answers, words_of_calls
+from .calls import Late, words_of_calls
+from .deals import bounds_of, homes_of
 from .hierarchy import Tree, read_tree
 from .logs import Refusal, shown, tell
-from .searching import Figures, Row, search
-from .traces import Trace, read_trace, write_file
+from .ranking import ORDERS, Order, Ranker, Row, Source, order
+from .sampling import MOST_PLANNED, SAMPLE, sampled
+from .searching import CAPS, Found, Search
+from .traces import write_file
 from .words import Words, number, run_words
 
 STRIPES = (1, 2, 4, 8, 16, 32)
 UNITS = tuple(1 << n for n in range(11))
 MOST_TREES = 1000
-MOST_RANKED = 64
+# What a search alone takes, and what it takes without such a word.
+OF_SEARCH: dict[str, object] = {
+    "any_place": False, "price": 1.0, "most": limits.AFFINITIES, "enough": 1.0, "curve": False, "minutes": None, "sample": None,
+}
 
 
 def with_stripes(tree: Tree, spaces: list[str], count: int, unit: int) -> Tree:
@@ -63,64 +72,24 @@ def largest(tree: Tree) -> list[str]:
     return [space for space, size in sizes.items() if size == max(sizes.values())]
 
 
-# By what trees are sorted: first the figure that was asked for, then the others. All trees have the same costs and releases, so the
-# order of the waits is that of the means, and is not rounded.
-ORDERS: dict[str, Callable[[Figures], tuple[int, ...]]] = {
-    "length": lambda it: (it.length, it.waits, it.p99),
-    "mean": lambda it: (it.waits, it.p99, it.length),
-    "p99": lambda it: (it.p99, it.waits, it.length),
-}
-
-
-def order(by: str, over: str) -> Callable[[Row], tuple[int, ...]]:
-    """The order of trees by the sums, or the worst, of their figures for each number of workers."""
-    is_worst = over == "worst"
-    return lambda row: tuple(max(it) if is_worst else sum(it) for it in zip(*map(ORDERS[by], row), strict=True))
-
-
-def order_of(row: Row, trace: Trace) -> str:
+def order_of(row: Row, sources: list[Source]) -> str:
     """What trees are sorted by where nobody says: by the mean latency where the last message is released in the second half of the
-    plan (of each, if they are for several numbers of workers), so that it is the releases that make the plan long, and else by the
-    length."""
-    last = max((it.release for it in trace.messages), default=0)
-    return "mean" if last and all(2 * last >= it.length for it in row) else "length"
+    plan (of each trace and number of workers), so that it is the releases that make the plan long, and else by the length."""
+    count = len(row) // len(sources)
+    lasts = [it.last for it in sources for _ in range(count)]
+    return "mean" if all(last and 2 * last >= it.length for last, it in zip(lasts, row, strict=True)) else "length"
 
 
-def columns(names: list[str], workers: list[int]) -> str:
-    """The header of a table with figures for so many workers; their numbers are told where there are several."""
-    told = [f"{it}-{count}" if len(workers) > 1 else it for count in workers for it in ("length", "mean", "p99")]
-    return ",".join([*names, *told])
+def columns(names: list[str], workers: list[int], traces: int) -> str:
+    """The header of a table with figures for so many workers and traces; their numbers are told where there are several."""
+    told = list(names)
+    for trace, count, it in itertools.product(range(1, traces + 1), workers, ("length", "mean", "p99")):
+        told.append(it + (f"-{count}" if len(workers) > 1 else "") + (f"-t{trace}" if traces > 1 else ""))
+    return ",".join(told)
 
 
 def cells(row: Row) -> str:
     return ",".join(f"{it.length},{it.mean},{it.p99}" for it in row)
-
-
-def rank(asked: Namespace, trees: list[Tree]) -> list[Row]:
-    """The figures of the trees' list plans, in order, as `waff rank` tells them."""
-    if asked.folder and not os.path.isdir(asked.folder):
-        raise Refusal(4, f"{shown(asked.folder)}: no folder")
-    with tempfile.TemporaryDirectory(dir=asked.folder) as folder:
-        names = [os.path.abspath(os.path.join(folder, f"{number}.toml")) for number, _ in enumerate(trees, 1)]
-        for name, tree in zip(names, trees, strict=True):
-            write_file(name, tree.text())
-        jobs = [job(asked, workers, part) for workers in asked.workers for part in parts(names)]
-        texts = answers(asked, jobs)
-    figures = [Figures.of(row) for text in texts for row in csv.DictReader(text.splitlines())]
-    if len(figures) != len(trees) * len(asked.workers):
-        raise Refusal(3, f"{len(figures)} trees were told of, and {len(trees) * len(asked.workers)} were asked for")
-    return [tuple(figures[at :: len(trees)]) for at in range(len(trees))]
-
-
-def parts(names: list[str]) -> list[list[str]]:
-    """The names in parts that one call of the program takes, at least as many as there are processors."""
-    size = max(1, min(MOST_RANKED, -(-len(names) // (os.cpu_count() or 1))))
-    return [names[at : at + size] for at in range(0, len(names), size)]
-
-
-def job(asked: Namespace, workers: int, names: list[str]) -> Job:
-    """The words of a call that ranks the trees of these files."""
-    return ["rank", "--workers", str(workers), "--rule", asked.rule, "--", os.path.abspath(asked.trace), *names]
 
 
 def numbers(word: str) -> list[int]:
@@ -132,6 +101,15 @@ def workers_of(word: str) -> list[int]:
     if len(set(found)) != len(found):
         raise argparse.ArgumentTypeError(f"{word!r} has a number twice")
     return found
+
+
+def decimal(least: Fraction, most: int, what: str) -> Callable[[str], float]:
+    def read(word: str) -> float:
+        if re.fullmatch(r"[0-9]{1,6}(\.[0-9]{1,4})?", word) is None or not least <= Fraction(word) <= most:
+            raise argparse.ArgumentTypeError(f"{word!r} is no {what} from {least} to {most}")
+        return float(word)
+
+    return read
 
 
 def words() -> ArgumentParser:
@@ -160,26 +138,70 @@ def words() -> ArgumentParser:
     )
     top.add_argument(
         "--over", choices=["sum", "worst"], default="sum",
-        help="with several numbers of workers the best is the tree whose figures have the least sum (sum), or of whose figures the"
-        " greatest is the least (worst)",
+        help="with several numbers of workers or several traces the best is the tree whose figures have the least sum (sum), or of whose"
+        " figures the greatest is the least (worst)",
     )
     top.add_argument("--rule", choices=["arrival", "longest"], default="arrival", help="the rule of the plans (arrival)")
     top.add_argument(
-        "--search", action="store_true",
-        help="search for a tree instead: change the unit, the number of stripes or the affinities of one space after another, or of"
-        " two together, each time as is best, until nothing gains; tells each change",
+        "--also", action="append", metavar="TRACE", default=[],
+        help="another trace that the tree is for (several times); the table shows the figures of each",
     )
-    top.add_argument("--write", metavar="FILE", help="write the best tree to this file")
+    top.add_argument(
+        "--hold", action="append", metavar="TRACE", default=[],
+        help="a trace that the tree is not made for (several times): the best tree is ranked for it at the end, beside the tree as it is",
+    )
+    words_of_search(top)
+    top.add_argument("--write", metavar="FILE", help="write the best tree to this file; a search writes it after each change")
     words_of_calls(top)
     top.add_argument("--folder", metavar="DIR", help="where the trees that are tried are written (a folder of their own in it)")
     return top
 
 
+def words_of_search(top: ArgumentParser) -> None:
+    top.add_argument(
+        "--search", action="store_true",
+        help="search for a tree instead: change the unit, the number of stripes or the affinities of one space after another, or of"
+        " two together, each time as is best, until nothing gains; tells each change, and what no tree passes",
+    )
+    top.add_argument(
+        "--any-place", action="store_true", default=None,
+        help="search trees in which a space may go anywhere; without it a space stays below the lowest affinity that is no stripe and is"
+        " at or above all that it has in HIER",
+    )
+    top.add_argument(
+        "--price", type=decimal(Fraction(0), 10, "price"), metavar="PERCENT",
+        help="what each affinity more has to gain (1); a search ends by taking away those that gain less",
+    )
+    top.add_argument("--most", type=number(1, limits.AFFINITIES, "number"), metavar="N", help="how many affinities a tree of a search may have")
+    top.add_argument(
+        "--enough", type=decimal(Fraction(0), 1000, "part"), metavar="PERCENT",
+        help="end the search at a length that is so little more than what no tree passes (1)",
+    )
+    top.add_argument(
+        "--curve", action="store_true", default=None,
+        help=f"print the best tree of at most {', '.join(map(str, CAPS))} affinities in place of the changes, and what no tree passes",
+    )
+    top.add_argument(
+        "--minutes", type=decimal(Fraction(1, 10000), 100000, "time"), metavar="M",
+        help="end the search after so many minutes with the best tree so far, as an interrupt does",
+    )
+    top.add_argument(
+        "--sample", type=number(1, limits.MESSAGES, "number"), metavar="N",
+        help="search with windows of a longer trace, of N messages together, and rank what is found on the whole"
+        f" ({SAMPLE} for traces of more than {MOST_PLANNED})",
+    )
+
+
 def tune(asked: Namespace) -> str:
-    if asked.trace == "-":
+    if "-" in [asked.trace, *asked.also, *asked.hold]:
         raise Refusal(2, "the trace is read once for each tree, so it is a file")
+    for word, usual in OF_SEARCH.items():
+        if getattr(asked, word) is None:
+            setattr(asked, word, usual)
+        elif not asked.search:
+            raise Refusal(2, f"--{word.replace('_', '-')}: wanted is --search beside it")
     tree = read_tree(asked.hier)
-    trace = read_trace(asked.trace)
+    sources = [Source.of(it) for it in (asked.trace, *asked.also)]
     # A space of one cell stands for the whole of a volume or a device, so a search leaves it where it is.
     usual = [space for space, size in tree.sizes.items() if size > 1] if asked.search else largest(tree)
     spaces = list(dict.fromkeys(asked.space or usual))
@@ -189,7 +211,12 @@ def tune(asked: Namespace) -> str:
     if asked.search and (asked.stripes or asked.unit):
         raise Refusal(2, "--search tries stripes and units of its own: it takes no --stripes and no --unit")
     if asked.search:
-        return searched(asked, tree, spaces, trace)
+        return searched(asked, tree, spaces, sources)
+    return tried(asked, tree, spaces, sources)
+
+
+def tried(asked: Namespace, tree: Tree, spaces: list[str], sources: list[Source]) -> str:
+    """The table of trees with other stripes and units for these spaces."""
     most = max(tree.sizes[space] for space in spaces)
     units = asked.unit or [unit for unit in UNITS if unit <= most]
     most_cells = limits.LARGE_UNIT if tree.is_large else limits.CELLS
@@ -201,42 +228,167 @@ def tune(asked: Namespace) -> str:
         raise Refusal(2, f"{len(tries)} trees of up to {max(stripes)} stripes: at most {MOST_TREES} of {limits.OWNERS}")
     trees = [with_stripes(tree, spaces, *it) for it in tries]
     tell(f"{len(trees)} trees with other stripes or units for {', '.join(spaces)}")
-    first, *others = rank(asked, [tree, *trees])
-    by = asked.by or order_of(first, trace)
-    tell_calm(first, trace)
+    first, *others = Ranker(asked, sources).rank([tree, *trees])
+    by = asked.by or order_of(first, sources)
+    tell_calm(first)
     tell_best(asked, by)
     key = order(by, asked.over)
     found = sorted(zip(others, tries, trees, strict=True), key=lambda it: (key(it[0]), it[1]))
-    lines = [columns(["stripes", "unit"], asked.workers), f"-,-,{cells(first)}"]
+    lines = [columns(["stripes", "unit"], asked.workers, len(sources)), f"-,-,{cells(first)}"]
     lines += [f"{stripes},{unit},{cells(it)}" for it, (stripes, unit), _ in found]
     if asked.write:
         write_file(asked.write, found[0][2].text())
+    tell_held(asked, tree, found[0][2], key)
     return "\n".join(lines) + "\n"
 
 
-def tell_calm(row: Row, trace: Trace) -> None:
+def tell_calm(row: Row) -> None:
     """Tells where messages hardly wait under the tree as it is, so that other trees can gain nothing."""
-    waits, cost = max(it.waits for it in row), sum(it.cost for it in trace.messages)
-    if 100 * waits < cost:
-        tell(f"under the tree as it is messages wait {waits} ticks in all, and cost {cost}: another tree gains little (`waff-trace pace`)")
+    most = max(row, key=lambda it: it.waits / max(1, it.cost))
+    if 100 * most.waits < most.cost:
+        told = f"messages wait {most.waits} ticks in all, and cost {most.cost}"
+        tell(f"under the tree as it is {told}: another tree gains little (`waff-trace pace`)")
 
 
 def tell_best(asked: Namespace, by: str) -> None:
-    over = f" ({asked.over} for {', '.join(map(str, asked.workers))} workers)" if len(asked.workers) > 1 else ""
-    tell(f"the best is the tree of the least {by}{over}")
+    several = [f"{', '.join(map(str, asked.workers))} workers"] if len(asked.workers) > 1 else []
+    several += [f"{1 + len(asked.also)} traces"] if asked.also else []
+    tell(f"the best is the tree of the least {by}" + (f" ({asked.over} for {' and '.join(several)})" if several else ""))
 
 
-def searched(asked: Namespace, tree: Tree, spaces: list[str], trace: Trace) -> str:
-    """The changes that a search made for these spaces, and the figures after each."""
-    longest = max((it.count() for it in trace.messages), default=1)
-    (first,) = rank(asked, [tree])
-    by = asked.by or order_of(first, trace)
-    tell_calm(first, trace)
+def tell_held(asked: Namespace, first: Tree, best: Tree, key: Order) -> None:
+    """Tells how the traces that the tree was not made for are planned under it."""
+    for name in asked.hold:
+        old, new = Ranker(asked, [Source.of(name)]).rank([first, best])
+        tell(f"{shown(name)}: {told(new)}; under the tree as it is {told(old)}")
+        if key(new) > key(old):
+            tell(f"WARNING: {shown(name)}: the tree that was found is worse there than the tree as it is")
+
+
+def told(row: Row) -> str:
+    return "; ".join(f"length {it.length}, mean {it.mean}, p99 {it.p99}" for it in row)
+
+
+class Progress:
+    """A line at a terminal that tells how far a search is."""
+
+    def __init__(self) -> None:
+        self.is_seen = sys.stderr.isatty()
+        self.best = ""
+
+    def show(self, count: int) -> None:
+        if self.is_seen:
+            print(f"\r\033[Kwaff-tune: {count} trees planned; the best has {self.best}", end="", file=sys.stderr, flush=True)
+
+    def clear(self) -> None:
+        if self.is_seen:
+            print("\r\033[K", end="", file=sys.stderr, flush=True)
+
+    def tell(self, text: str) -> None:
+        self.clear()
+        tell(text)
+
+
+def searched(asked: Namespace, tree: Tree, spaces: list[str], sources: list[Source]) -> str:
+    """The changes that a search made for these spaces, and the figures after each; or the best trees of few affinities."""
+    signal.signal(signal.SIGTERM, signal.default_int_handler)
+    whole = Ranker(asked, sources)
+    (first,) = whole.rank([tree])
+    by = asked.by or order_of(first, sources)
+    key = order(by, asked.over)
+    tell_calm(first)
     tell_best(asked, by)
-    steps, best = search(tree, spaces, longest, lambda trees: rank(asked, trees), order(by, asked.over))
+    floors = whole.floors(asked.hier) if by == "length" else []
+    with tempfile.TemporaryDirectory(dir=asked.folder) as folder:
+        windows = [it for source in sources for it in sampled(source, asked.sample, folder)]
+        made = search_of(asked, tree, spaces, Ranker(asked, windows, known=whole.known if windows == sources else {}), by)
+        is_done = run(asked, made, tree)
+    steps, curve = made.steps, made.curve() if asked.curve else []
+    if windows != sources:
+        # What gained on the windows counts by what it is on the whole. Who interrupts it waits for one tree alone.
+        steps = ranked(whole, steps if is_done else [steps[0], steps[-1]])
+        curve = [(cap, it and ranked(whole, [it])[0]) for cap, it in curve]
+    best = best_of(made, steps)
     if asked.write:
-        write_file(asked.write, best.text())
-    lines = [columns(["change"], asked.workers), *(f"{what},{cells(it)}" for what, it in steps)]
+        write_file(asked.write, best.tree.text())
+    tell(f"{made.ranker.count} trees were planned")
+    tell_held(asked, tree, best.tree, key)
+    tell_floor(asked, best.row, floors)
+    if asked.curve:
+        return curve_text(asked, curve, floors)
+    lines = [columns(["change"], asked.workers, len(sources)), *(f"{it.what},{cells(it.row)}" for it in steps)]
+    return "\n".join(lines) + "\n"
+
+
+def search_of(asked: Namespace, tree: Tree, spaces: list[str], ranker: Ranker, by: str) -> Search:
+    bounds = bounds_of(tree, spaces) + ([] if asked.any_place else [*homes_of(tree, spaces).items()])
+    floors = ranker.floors(asked.hier) if by == "length" else []
+    enough = total(asked, floors) * (1 + asked.enough / 100) if floors else -1.0
+    longest = max(it.longest for it in ranker.traces)
+    return Search(spaces, longest, bounds, ranker, order(by, asked.over), asked.price / 100, asked.most, enough)
+
+
+def run(asked: Namespace, made: Search, tree: Tree) -> bool:
+    """Searches, and tells and writes what is found. False where it is stopped before its end."""
+    progress, ranker = Progress(), made.ranker
+
+    def changed(found: Found) -> None:
+        progress.best = "; ".join(f"length {it.length}, mean {it.mean}" for it in found.row)
+        progress.tell(f"{found.what}: {progress.best}")
+        if asked.write:
+            write_file(asked.write, found.tree.text())
+
+    ranker.on_step, made.on_change = progress.show, changed
+    ranker.until = asked.minutes and time.monotonic() + 60 * asked.minutes
+    if not made.begin(tree):
+        raise Refusal(2, f"--most {asked.most}: {made.steps[-1].count()} affinities are left where no space has any of its own")
+    try:
+        made.improve()
+        made.lessen()
+        if asked.curve:
+            made.climb()
+    except KeyboardInterrupt:
+        progress.tell("interrupted: the best tree so far")
+        return False
+    except Late:
+        progress.tell(f"{asked.minutes:g} minutes are over: the best tree so far")
+        return False
+    progress.clear()
+    return True
+
+
+def ranked(ranker: Ranker, found: list[Found]) -> list[Found]:
+    """These trees, with the figures of other traces."""
+    return [replace(it, row=row) for it, row in zip(found, ranker.rank([it.tree for it in found]), strict=True)]
+
+
+def best_of(made: Search, steps: list[Found]) -> Found:
+    """The best of these trees of a search: the last that gains or is worth it, in the order in which they were made."""
+    best = steps[-1] if steps[0].count() > made.most else steps[0]
+    for it in steps[1:]:
+        if it.count() <= made.most and (made.gains(it, best) or made.is_worth(it, best)):
+            best = it
+    return best
+
+
+def total(asked: Namespace, lengths: list[int]) -> int:
+    return max(lengths) if asked.over == "worst" else sum(lengths)
+
+
+def tell_floor(asked: Namespace, row: Row, floors: list[int]) -> None:
+    """Tells how long the plan is under this tree, and what no tree passes."""
+    if floors:
+        least, length = total(asked, floors), total(asked, [it.length for it in row])
+        tell(f"no tree has less than {least}; this one has {length}" if least < length else "no tree is better")
+
+
+def curve_text(asked: Namespace, curve: list[tuple[int, Found | None]], floors: list[int]) -> str:
+    """The table of the best trees of few affinities."""
+    traces = 1 + len(asked.also)
+    lines = [columns(["most", "affinities"], asked.workers, traces)]
+    none = ",-,-,-" * traces * len(asked.workers)
+    lines += [f"{cap},{it.count()},{cells(it.row)}" if it else f"{cap},-{none}" for cap, it in curve]
+    lines += ["floor,-" + "".join(f",{it},-,-" for it in floors)] if floors else []
     return "\n".join(lines) + "\n"
 
 

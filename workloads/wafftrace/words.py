@@ -43,10 +43,12 @@ latencies, the less that is: take two widths, and compare. Windows that overlap 
 of a trace with clients are taken in the order in which they were issued in the log, which may be another one than that of the trace."""
 
 GATHER_HELP = """\
-A line for each line of the answers: how many windows, their messages, and the sums of length, list, least and waits. The mean is
-weighted by messages, speedup and busy by lengths. p50, p99, latency and any column of whole numbers that is not known by its name are
-those of the median window (of an even number, the lower one of the two in the middle), and with `-worst` those of the worst one; they are
-no percentiles of all messages. Others that are not known are means weighted by messages. Each window begins with no
+A line for each line of the answers: how many windows, their messages, and the sums of length, list, least, waits and costs. The mean is
+weighted by messages, speedup and busy by lengths, running by the messages of windows. p50, p99, latency and any column of whole numbers
+that is not known by its name are those of the median window (of an even number, the lower one of the two in the middle), and with
+`-worst` those of the worst one; they are no percentiles of all messages. Others that are not known are means weighted by messages. The
+place of a limit (at) is that of the window in which it is the greatest, and the cells of why are those of the first window, which is named.
+Of waits --worst the messages of the greatest latency of all windows are told, as many as an answer has. Each window begins with no
 message under way, so waits and latencies are less than those of the whole trace (`waff-trace window --help`)."""
 
 
@@ -321,7 +323,7 @@ def words_of_traces(part: Callable[..., ArgumentParser]) -> None:
         help="how the files' names begin (window-); a folder, or what ends with `/`, holds the files, and is made if it is not there",
     )
 
-    what = "what `waff sweep` or `waff rank` told of each window, in one table"
+    what = "what `waff sweep`, `limits`, `where`, `waits --worst`, `why` or `rank` told of each window, in one table"
     found = part("gather", what, gathering.gather, GATHER_HELP)
     found.add_argument("windows", metavar="WINDOWS", help="what `waff-trace window` printed")
     found.add_argument(
@@ -330,8 +332,8 @@ def words_of_traces(part: Callable[..., ArgumentParser]) -> None:
     )
     found.add_argument(
         "--call", metavar="WORDS",
-        help="call the program for each window in place of reading answers, with the words of a sweep or a rank; {} is the window"
-        " (`sweep tree.toml {} --workers 8`)",
+        help="call the program for each window in place of reading answers, with the words of sweep, limits, where, waits --worst, why or"
+        " rank; {} is the window (`sweep tree.toml {} --workers 8`)",
     )
     words_of_calls(found)
 
