@@ -1,0 +1,372 @@
+"""The page of a report: its sections, each with its charts, its tables and the commands that print their numbers."""
+
+import base64
+import html
+import importlib.resources
+import re
+from collections.abc import Iterable
+from string import Template
+
+from .report_answers import Answer, Ran, Report, Row, Under
+from .report_charts import (
+    PARTS, RUN_WORDS, Charts, Stack, allowed_of, map_of, run_rows, stack_of, stacks_of,
+)
+
+# So many rows of a table are shown, with a word on those left out.
+MOST_ROWS = 12
+
+LIGHT = {
+    "ground": "#ffffff", "raised": "#f3f5f7", "ink": "#1b1f24", "quiet": "#57606a", "line": "#d4d9df", "heat": "#b02a1c",
+    "hue0": "#0b62a8", "hue1": "#c2571a", "hue2": "#1c7f5c", "hue3": "#a3356f", "hue4": "#7d6608", "hue5": "#5b4aa8",
+    "hue6": "#3d7d8c", "hue7": "#6b7280",
+}
+DARK = {
+    "ground": "#14171b", "raised": "#1d2227", "ink": "#e6e9ec", "quiet": "#a3acb6", "line": "#3a424b", "heat": "#ff7a66",
+    "hue0": "#5fb0ee", "hue1": "#f0935a", "hue2": "#4fc99a", "hue3": "#e58abb", "hue4": "#d8bd4a", "hue5": "#a99cf0",
+    "hue6": "#74bccb", "hue7": "#a2aab5",
+}
+
+NO_CHARTS = (
+    "This page has its tables alone: the charts are drawn by matplotlib, which Python does not find here."
+    " <code>apt-get install python3-matplotlib</code> (or <code>pip install matplotlib</code>) brings it; then make the page again."
+)
+
+
+def properties(colours: dict[str, str]) -> str:
+    return ";".join(f"--{name}:{value}" for name, value in colours.items())
+
+
+def colours() -> str:
+    return (
+        f":root{{color-scheme:light dark;{properties(LIGHT)}}}\n"
+        f"@media (prefers-color-scheme:dark){{:root{{{properties(DARK)}}}}}"
+    )
+
+
+def escaped(text: str) -> str:
+    """A text of a page. What UTF-8 does not have is shown as what it is."""
+    return html.escape(text.encode("utf-8", "backslashreplace").decode())
+
+
+def figure_text(value: str) -> str:
+    """A figure with commas at its thousands, anything else as it is."""
+    return f"{int(value):,}" if re.fullmatch(r"[0-9]{4,}", value) else value
+
+
+def per_cent(part: int, whole: int) -> str:
+    return f"{100 * part / whole:.0f} %" if whole else "0 %"
+
+
+def table(rows: list[Row], columns: dict[str, str], name: str, caption: str = "", words: Iterable[str] = ()) -> str:
+    """Rows with these columns under these headings; columns of words stand to the left."""
+    told = {column: ' class="word"' if column in words else "" for column in columns}
+    head = "".join(f"<th{told[column]}>{heading}</th>" for column, heading in columns.items())
+    lines = [f'<div class="table"><table id="{name}">', f"<caption>{caption}</caption>" if caption else ""]
+    lines.append(f"<thead><tr>{head}</tr></thead><tbody>")
+    for row in rows:
+        cells = "".join(
+            f"<td{told[column]}>{escaped(row[column]) if told[column] else escaped(figure_text(row[column]))}</td>" for column in columns
+        )
+        lines.append(f"<tr>{cells}</tr>")
+    return "\n".join(filter(None, [*lines, "</tbody></table></div>"]))
+
+
+def made_by(*answers: Answer | str) -> str:
+    lines = dict.fromkeys(it if isinstance(it, str) else it.command for it in answers)
+    return "<pre>" + "\n".join(f"$ {escaped(it)}" for it in lines) + "</pre>"
+
+
+def figure(picture: str, caption: str) -> str:
+    return f'<figure><figcaption>{caption}</figcaption>{picture}</figure>' if picture else ""
+
+
+def of_workers(count: int | str) -> str:
+    return "1 worker" if str(count) == "1" else "any number of workers" if count == "-" else f"{count} workers"
+
+
+def stack_table(stacks: list[Stack]) -> str:
+    rows = []
+    for it in stacks:
+        parts = {f"of {name}": str(length) for name, length in zip(PARTS, it.parts, strict=True)}
+        rows.append({"under": it.label, "for": str(it.workers), **parts, "length": str(it.length)})
+    columns = {"under": "under", "for": "for", **{f"of {name}": name for name in PARTS}, "length": "length"}
+    return table(rows, columns, "table-stacks", "The ticks that each limit adds to those before it", ("under",))
+
+
+def cause(part: int, limits: dict[str, Row]) -> str:
+    """What a part of a stack is due to, in words."""
+    data, clients, tree = (limits[it] for it in ("data", "clients", "tree"))
+    if part == 0 and int(data["length"]) >= int(clients["length"]):
+        return f"the cell {data['at']}: the messages that touch it run one after another under any tree"
+    if part == 0:
+        whose = "a message by itself" if clients["at"] == "-" else f"client {clients['at']}"
+        return f"{whose}, with its releases and thinking, which no tree and no worker mends"
+    return (
+        f"the tree: the messages that run in {tree['at']} or above it exclude each other",
+        "the order of service",
+        "the workers, who have so much to do",
+        "the plan itself: a better one may gain this",
+    )[part - 1]
+
+
+class Page:
+    """The sections of a report. Without charts it has its tables alone."""
+
+    def __init__(self, report: Report, charts: Charts | None) -> None:
+        self.report = report
+        self.charts = charts
+        self.kept: dict[str, str] = {}
+        self.sections: list[tuple[str, str, str]] = []
+
+    def chart(self, name: str, kind: str, *of: object) -> str:
+        """A chart, which stands in the page under this name."""
+        if self.charts is None:
+            return ""
+        text: str = getattr(self.charts, kind)(*of, name)
+        self.kept[name] = text
+        return text.replace("<svg ", f'<svg id="{name}" role="img" ', 1)
+
+    def section(self, name: str, heading: str, *parts: str) -> None:
+        self.sections.append((name, heading, "\n".join(filter(None, parts))))
+
+    def heading(self, under: Under) -> str:
+        return f"<h3>{escaped(under.label)}</h3>" if len(self.report.trees) > 1 else ""
+
+    def text(self) -> str:
+        self.limits()
+        self.speeds()
+        self.waits()
+        self.latencies()
+        self.where()
+        self.worst()
+        self.pictures()
+        if self.report.runs:
+            self.run(self.report.runs)
+        if self.report.log is not None:
+            self.log(self.report.log)
+        self.sure()
+        body = [f'<section class="found">{self.found()}</section>', "" if self.charts else f'<p class="found warning">{NO_CHARTS}</p>']
+        body += [f'<section id="{name}">\n<h2>{heading}</h2>\n{text}\n</section>' for name, heading, text in self.sections]
+        report = self.report
+        names = ", ".join(f"<code>{escaped(it.name)}</code>" for it in report.trees)
+        about = f"The trace <code>{escaped(report.trace)}</code> under {names}, by waff {escaped(report.version)}. Times are in ticks of the trace."
+        template = importlib.resources.files(__package__).joinpath("report.html").read_text(encoding="utf-8")
+        return Template(template).substitute(
+            title=escaped(report.title), version=escaped(report.version), colours=colours(),
+            paper=f":root{{color-scheme:light;{properties(LIGHT)}}}", about=about,
+            contents=" ".join(f'<a href="#{name}">{heading}</a>' for name, heading, _ in self.sections),
+            body="\n".join(filter(None, body)),
+        )
+
+    def found(self) -> str:
+        """A paragraph for each tree: how fast it is, and what the greatest part of the length is due to."""
+        lines = []
+        for under in self.report.trees:
+            row, stack = under.figures(), stack_of(under, under.workers)
+            rows = {it["limit"]: it for it in allowed_of(under)}
+            part = max(range(len(PARTS)), key=lambda it: stack.parts[it])
+            told = (
+                f"Under <b>{escaped(under.label)}</b> {of_workers(under.workers)} {'needs' if under.workers == 1 else 'need'}"
+                f" <b>{int(row['length']):,}</b> ticks: <b>{row['speedup']}</b> times as fast as one message after another."
+            )
+            if stack.length:
+                share = per_cent(stack.parts[part], stack.length)
+                told += f" The greatest part of that, {share}, is due to {escaped(cause(part, rows))}."
+            if rows["data"]["speedup"] != "-":
+                told += f" The data themselves allow {rows['data']['speedup']} times."
+            lines.append(f"<p>{told}</p>")
+        return "\n".join(lines)
+
+    def limits(self) -> None:
+        report, workers = self.report, max(self.report.workers)
+        stacks = stacks_of(report.trees, report.workers)
+        charts = [
+            figure(self.chart("chart-allowed", "allowed", report.trees),
+                   f"The speed-up that each limit allows by itself, for {of_workers(workers)}; the last line is the plan. A step of the axis is"
+                   " ten times as much."),
+            figure(self.chart("chart-limits", "stacks", stacks),
+                   "What the length of the plan is made of, by tree and number of workers: what each limit adds to those before it."),
+        ]
+        tables = []
+        for number, under in enumerate(report.trees):
+            columns = {"limit": "limit", "workers": "workers", "length": "length", "speedup": "speed-up", "at": "where"}
+            found = table(under.limits.rows(), columns, f"table-limits-{number}", words=("limit", "at"))
+            tables.append(f"<div>{self.heading(under)}{found}</div>")
+        self.section(
+            "limits", "What limits it",
+            "<p>A plan is no shorter than any limit but the last two, whatever the order. <b>data</b>: the messages that touch one cell. No"
+            " tree mends these. <b>clients</b>: a client's messages and thinking. <b>work</b>: all costs over the workers. <b>tree</b>: the"
+            " messages at or above one affinity. <b>order</b>: the plan without a limit on workers, in the order of service. <b>plan</b>: the"
+            " plan for so many workers.</p>",
+            f'<div class="charts">{"".join(charts)}</div>' if self.charts else "", f'<div class="charts">{"".join(tables)}</div>',
+            stack_table(stacks), made_by(*(it.limits for it in report.trees)),
+        )
+
+    def speeds(self) -> None:
+        trees = self.report.trees
+        chart = figure(
+            self.chart("chart-speeds", "speeds", trees),
+            "Speed-up against workers. No plan passes the dashed line of its colour (least). Dotted: twice as fast with twice the workers.",
+        )
+        columns = {"workers": "workers", "length": "length", "speedup": "speed-up", "busy": "busy", "least": "least", "over": "over",
+                   "waits": "waits", "mean": "mean", "p50": "p50", "p99": "p99", "latency": "greatest"}
+        tables = []
+        for number, it in enumerate(trees):
+            tables += [self.heading(it), table(it.sweep.rows(), columns, f"table-sweep-{number}")]
+        self.section(
+            "speed", "How much more workers bring", chart,
+            *tables,
+            "<p class=\"quiet\">No plan for so many workers is shorter than <b>least</b> ticks; of a trace of version 1 or 2 none that serves in"
+            " the order of arrival. <b>over</b> is the length over least. mean, p50, p99 and greatest are latencies, from the issue of a"
+            " message to its finish. <b>-</b>: for any number of workers.</p>",
+            made_by(*(it.sweep for it in trees)),
+        )
+
+    def waits(self) -> None:
+        parts = []
+        columns = {"affinity": "waits", "for": "for", "messages": "messages", "ticks": "ticks", "longest": "longest"}
+        for number, under in enumerate(self.report.trees):
+            order, _, left = map_of(under)
+            rows = [{**row, "for": "a worker" if row["for"] == "-" else row["for"]} for row in under.waits.rows()]
+            note = f" Waits of other affinities, {left:,} ticks in all, are left out." if left else ""
+            picture = self.chart(f"chart-waits-{number}", "waits", under) if order else ""
+            left_out = f"The longest waits, {MOST_ROWS} of {len(rows):,} pairs" if len(rows) > MOST_ROWS else "The longest waits first"
+            parts.append(
+                "<div>" + self.heading(under)
+                + figure(picture, f"Messages of the row's affinity wait for those of the column's, the darker the longer.{note}")
+                + table(rows[:MOST_ROWS], columns, f"table-waits-{number}", left_out, ("affinity", "for")) + "</div>"
+            )
+        intro = (
+            f"<p>For {of_workers(max(self.report.workers))}. A dark cross is an affinity that stops those below it; a dark cell of the diagonal"
+            " one that is hot.</p>"
+        )
+        commands = made_by(*(it.waits for it in self.report.trees))
+        self.section("waits", "Who waits for whom", intro, f'<div class="charts">{"".join(parts)}</div>', commands)
+
+    def latencies(self) -> None:
+        parts, commands = [], []
+        columns = {"rule": "rule", "length": "length", "mean": "mean", "p50": "p50", "p99": "p99", "latency": "greatest", "waits": "waits"}
+        for number, under in enumerate(self.report.trees):
+            rows = []
+            for it in under.latencies:
+                rows.append({"rule": it.rule, **next(row for row in it.figures.rows() if row["workers"] == str(under.workers))})
+                commands += [it.command, it.figures.command]
+            is_drawn = any(it.percentiles for it in under.latencies)
+            picture = self.chart(f"chart-latencies-{number}", "latencies", under) if is_drawn else ""
+            parts.append(
+                "<div>" + self.heading(under) + figure(picture, "So many of 100 messages have at most this latency.")
+                + table(rows, columns, f"table-latencies-{number}", words=("rule",)) + "</div>"
+            )
+        intro = (
+            f"<p>For {of_workers(max(self.report.workers))}. By <b>arrival</b> the ready message that came first starts first, by <b>longest</b>"
+            " the one on which the longest chain of work hangs: mostly a shorter plan, and at times greater latencies.</p>"
+        )
+        self.section("latencies", "Latencies", intro, f'<div class="charts">{"".join(parts)}</div>', made_by(*commands))
+
+    def where(self) -> None:
+        parts, commands = [], []
+        figures = {"messages": "messages", "cost": "cost", "chain": "chain", "running": "running", "waits": "waits", "mean": "mean",
+                   "p99": "p99", "latency": "greatest"}
+        for number, under in enumerate(self.report.trees):
+            parts.append("<div>" + self.heading(under))
+            kinds = [("affinity", under.where), ("name", under.names), ("client", under.clients)]
+            for kind, answer in kinds:
+                rows = sorted((row for row in answer.rows() if row["messages"] != "0"), key=lambda row: -int(row["cost"]))
+                if kind == "client" and all(row["client"] == "-" for row in rows):
+                    continue
+                more = len(rows) - MOST_ROWS
+                cost = sum(int(row["cost"]) for row in rows[MOST_ROWS:])
+                caption = f"By {kind}, the most cost first" + (f"; {more:,} more with {cost:,} ticks in all" if more > 0 else "")
+                parts.append(table(rows[:MOST_ROWS], {kind: kind, **figures}, f"table-{kind}-{number}", caption, (kind,)))
+                commands.append(answer)
+            parts.append("</div>")
+        intro = (
+            f"<p>For {of_workers(max(self.report.workers))}. <b>chain</b>: the cost of those on the chain that makes the plan this long."
+            " <b>running</b>: how many of them run at once in the mean. <b>waits</b>: the ticks from their issues to their starts.</p>"
+        )
+        self.section("where", "Where the time goes", intro, f'<div class="charts wide">{"".join(parts)}</div>', made_by(*commands))
+
+    def worst(self) -> None:
+        parts = []
+        columns = {"message": "message", "name": "name", "affinity": "affinity", "client": "client", "issue": "issue", "ready": "ready",
+                   "start": "start", "finish": "finish", "latency": "latency", "waited": "waited for"}
+        for number, under in enumerate(self.report.trees):
+            rows = [
+                {**row, "waited": f"{row['for']} ({row['forname']} in {row['foraffinity']})" if row["for"] != "-" else "-"}
+                for row in under.worst.rows()
+            ]
+            words = ("name", "affinity", "client", "waited")
+            parts += [self.heading(under), table(rows, columns, f"table-worst-{number}", words=words)]
+        intro = (
+            f"<p>The messages of the greatest latency, for {of_workers(max(self.report.workers))}. From <b>ready</b> on a message waits for a"
+            " worker alone.</p>"
+        )
+        self.section("worst", "The worst messages", intro, *parts, made_by(*(it.worst for it in self.report.trees)))
+
+    def pictures(self) -> None:
+        parts, commands = [], []
+        for number, under in enumerate(self.report.trees):
+            if under.picture is None:
+                continue
+            data = base64.b64encode(under.picture.text.encode()).decode()
+            told = f"The plan under {escaped(under.label)} for {of_workers(under.workers)}"
+            image = f'<img id="picture-{number}" alt="{told}" src="data:image/svg+xml;base64,{data}">'
+            parts += [self.heading(under), f'<figure class="picture">{image}</figure>']
+            commands.append(under.picture)
+        intro = (
+            "<p>A lane is an affinity, and below these a worker. A bar is a message from its start to its finish. Orange is the chain: each"
+            " of its bars waits for the one before, which makes the plan as long as it is."
+            + (" All pictures show the same ticks.</p>" if len(parts) > 2 else "</p>")
+        )
+        self.section("picture", "A part of the plan", intro, *parts, made_by(*commands))
+
+    def run(self, ran: Ran) -> None:
+        rows = [{"what": what, **row} for what, row in zip(RUN_WORDS, run_rows(ran), strict=True)]
+        columns = {"what": "", "length": "length", "speedup": "speed-up", "busy": "busy", "waits": "waits", "mean": "mean", "p50": "p50",
+                   "p99": "p99", "latency": "greatest"}
+        length, again = int(rows[1]["length"]), int(rows[2]["length"])
+        share = f"{again / length:.2f}" if length else "-"
+        verdict = ran.ran.values()["verdict"]
+        self.section(
+            "run", "Predicted and measured",
+            f"<p>For {of_workers(ran.workers)}, under {escaped(self.report.trees[0].label)}. The third line is planned of the costs that were"
+            " measured: what it is shorter than the run was spent between the messages.</p>",
+            figure(self.chart("chart-run", "run", ran), "The lengths of the plan, of the run, and of the plan for the measured costs."),
+            table(rows, columns, "table-run", words=("what",)),
+            f"<p>The plan of the measured costs is <b>{share}</b> of the run. Above 0.95 the run was mostly of the messages themselves; far"
+            f" below, of what ran them. The run, as <code>waff check</code> sees it: {escaped(verdict)}.</p>",
+            made_by(ran.planned, ran.ran, ran.again),
+        )
+
+    def log(self, log: str) -> None:
+        """What an import said: first what it warns of, then what it kept, what it left out, and the rest, each in its own words."""
+        lines = [re.sub(r"^waff-trace: ", "", it) for it in log.splitlines() if it.strip()]
+        kinds = {"warning": r"WARNING: |.*: WARNING: ", "kept": r".*\bkept [0-9]", "left": r".*: left out: "}
+        sorts: dict[str, list[str]] = {it: [] for it in [*kinds, "rest"]}
+        for line in lines:
+            sorts[next((kind for kind, form in kinds.items() if re.match(form, line)), "rest")].append(line)
+        warned = "</p><p>".join(map(escaped, sorts["warning"]))
+        parts = [f'<div class="found warning"><p>{warned}</p></div>'] if warned else []
+        for kind, heading in (("kept", "Kept"), ("left", "Left out"), ("rest", "Said besides")):
+            if sorts[kind]:
+                told = [it.replace("left out: ", "", 1) for it in sorts[kind]]
+                parts.append(f"<h3>{heading}</h3><ul id=\"log-{kind}\">{''.join(f'<li>{escaped(it)}</li>' for it in told)}</ul>")
+        empty = "" if lines else "<p>The import said nothing.</p>"
+        source = f'<p class="quiet">From <code>{escaped(self.report.log_name)}</code>.</p>'
+        self.section("log", "What the import left out", *parts, empty, source)
+
+    def sure(self) -> None:
+        self.section(
+            "sure", "How sure the numbers are",
+            "<p>The numbers are those of the program <code>waff</code>, and each section ends with the commands that print them. That they"
+            " are right is proved, for the model: messages with fixed costs, a tree of affinities, workers that are all alike. They measure"
+            " no system: on a machine costs change with what else runs, and caches, locks and devices are not in the trace. The charts,"
+            " what a limit adds to those before it, and the page itself are made by a script, which is tested and not proved.</p>",
+            made_by(self.report.made),
+        )
+
+
+def standing_alone(picture: str) -> str:
+    """A chart as a file of its own, with its colours."""
+    style = f"<style>{colours()}\nsvg{{background:var(--ground)}}text{{font-family:sans-serif}}</style>"
+    return re.sub(r"^(<svg [^>]*>)", lambda it: it[1] + style, picture, count=1) + "\n"
