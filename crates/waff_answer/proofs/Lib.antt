@@ -1,3 +1,4 @@
 mod Answering
 mod OneAnswer
 mod OneRefusal
+mod Running

@@ -1,8 +1,8 @@
 -- Of the same files what is asked is refused for one error, and for none where it has an answer.
 use Rattle.std.proofs.Common.{ℕ, List, drop}
 use Rattle.waff_io.specs.Split.{after_mark, before_mark}
-use Rattle.waff_inputs.proofs.Refusals.{accepted_is_not_refused, refusal_is_one}
-use Rattle.waff_inputs.specs.Inputs.{TellsOfFiles}
+use Rattle.waff_inputs.proofs.Refusals.{accepted_is_not_refused, one_refusal}
+use Rattle.waff_inputs.specs.Inputs.{TellsOfFiles, files_of}
 use Rattle.waff_inputs.specs.declared.fault.ToolError.{ToolError}
 use Rattle.waff_inputs.specs.declared.fault.ToolError.TheVariants as tool
 use Rattle.waff_tool.specs.Explanations.{RefusesWork}
@@ -22,7 +22,7 @@ no_work tool.Write tells refused = absurd tells
 no_work _ tells refused = absurd refused
 
 pub asked_refusal_is_one : (asked : Asked) (files : List (List ℕ)) → RefusalIsOne asked files
-asked_refusal_is_one asked.PlanOfInput files = refusal_is_one (before_mark (first files)) (after_mark (first files))
+asked_refusal_is_one asked.PlanOfInput files = one_refusal (files_of (before_mark (first files)) (after_mark (first files)))
 asked_refusal_is_one asked.Check files = check_refusal_is_one (first files) (second files) (third files)
 asked_refusal_is_one asked.Rate files = check_refusal_is_one (first files) (second files) (third files)
 asked_refusal_is_one (asked.Draw drawing part) files = check_refusal_is_one (first files) (second files) (third files)
@@ -30,7 +30,7 @@ asked_refusal_is_one (asked.Replay workers) files = replay_refusal_is_one (first
 asked_refusal_is_one (asked.Compare k) files = comparison_refusal_is_one (first files) (second files) (third files)
 asked_refusal_is_one (asked.Rank k rule) files = rank_refusal_is_one (drop 1 files) (first files)
 asked_refusal_is_one asked.Explain files = λ one other p q. absurd (no_work one p.0 p.1)
-asked_refusal_is_one _ files = refusal_is_one (first files) (second files)
+asked_refusal_is_one _ files = one_refusal (files_of (first files) (second files))
 
 pub answered_is_not_refused : (asked : Asked) (files : List (List ℕ)) → AnsweredIsNotRefused asked files
 answered_is_not_refused asked.PlanOfInput files status text error told =

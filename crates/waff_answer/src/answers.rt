@@ -17,7 +17,7 @@ use std::thread::Threads;
 use waff_check::Verdict;
 use waff_cli::{Asked, Drawing, Question, thread_count};
 use waff_tool::{
-    Explained, MAX_RANKED, Part, Picture, Rule, ToolError, assign_text_by_threads, check_text,
+    Explained, Picture, Rule, ToolError, assign_text_by_threads, check_text,
     compare_text_by_threads, draw_text, explain_text, explained_status, limits_text, needs_text,
     plan_text_by, rank_text, rate_text, replay_text, split_input, sweep_text, sweep_workers,
     verdict_status, waits_text, where_text, why_text, worst_text,
@@ -128,7 +128,7 @@ fn explained(told: Result<Explained, ToolError>) -> Result<u8, ToolError>
 }
 
 /// The file of this place, which is empty where there is none.
-fn file(files: &[Vec<u8>], at: usize) -> &[u8]
+pub(crate) fn file(files: &[Vec<u8>], at: usize) -> &[u8]
     ensures { result.now ≡ file_at (bytes_of files.now) at }
 {
     if at < files.len() {

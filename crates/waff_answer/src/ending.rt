@@ -4,34 +4,43 @@ ghost use Rattle.waff_io.specs.Writing.{Tells};
 ghost use Rattle.waff_inputs.specs.Fault.{fault_message, status_of};
 ghost use Rattle.waff_answer.specs.Answers.{bytes_of};
 ghost use Rattle.waff_answer.specs.Ends.{Ends, IsRefused};
+ghost use Rattle.waff_answer.specs.Runs.{EndsTask};
 
 use crate::answers::print;
+use crate::runs::answer_run;
 use std::alloc::Global;
 use std::io::Write;
+use std::rt::{Clock, Files};
 use std::sync::Wait;
 use std::thread::Threads;
-use waff_cli::{Question, Refusal};
+use waff_cli::{Question, Refusal, Task};
 use waff_inputs::{ToolError, fault_status, write_fault};
 use waff_io::ErrorStream;
+use waff_run::Opens;
 
-/// Answers the question that was read, or says why there is none, and gives the exit status.
-pub fn end<R: Threads + Wait + Sync, W: Write, E: ErrorStream>(
+/// Answers the question that was read, or runs the messages, or says why there is neither, and gives the
+/// exit status.
+pub fn end<R: Threads + Wait + Clock + Files + Opens + Eprint + Sync, W: Write, E: ErrorStream>(
     rt: &R,
     alloc: Global,
-    read: Result<Question, Refusal>,
+    read: Result<Task, Refusal>,
     out: &mut W,
     err: &mut E,
 ) -> u8
-    ensures answered { IfOk read (λ question. Ends question.asked (bytes_of question.files.items)
-        (W.contents out.old) (W.contents out.new) (E.holds err.old) (E.holds err.new)
-        (E.failed err.new) result) }
+    ensures answered { IfOk read (λ task. EndsTask task (W.contents out.old) (W.contents out.new)
+        (E.holds err.old) (E.holds err.new) (E.failed err.new) result) }
     ensures refused { IfErr read (λ refusal. IsRefused refusal (W.contents out.old)
         (W.contents out.new) (E.holds err.old) (E.holds err.new) (E.failed err.new) result) }
 {
     match read {
-        Ok(question) => {
+        Ok(Task::Question(question)) => {
             let status = answer(rt, alloc, &question, out, err);
             drop(question);
+            status
+        }
+        Ok(Task::Run(task)) => {
+            let status = answer_run(rt, alloc, &task, out, err);
+            drop(task);
             status
         }
         Err(refusal) => refusal.report(alloc, err),

@@ -3,6 +3,7 @@
 //! - `answers`: which command answers what is asked, of which files; what is written of it.
 //! - `ending`: the answer on the output, or the line of an error on the error stream, and the exit
 //!   status.
+//! - `runs`: the messages run on files, and what is told of that.
 //! - `unique`: what is asked of files has one answer, or is refused for one error.
 //!
 //! The words of a question and its files are read by `waff_cli`, the texts are those of `waff_tool`.
@@ -12,6 +13,7 @@
 
 mod answers;
 mod ending;
+mod runs;
 mod unique;
 
 pub use ending::{answer, end};

@@ -40,12 +40,33 @@ pub enum Word {
     Figures,
     /// `--worst`.
     Worst,
+    /// A word of `run` alone.
+    Run(RunWord),
     /// `--as`.
     Picture,
     /// `--from`.
     From,
     /// `--to`.
     To,
+}
+
+/// A word of `run` for where and how messages are run.
+#[derive(Clone, Copy)]
+pub enum RunWord {
+    /// The folder of the files of cells.
+    Folder,
+    /// `--cell`.
+    Cell,
+    /// `--tick`.
+    Tick,
+    /// `--fill`.
+    Fill,
+    /// `--sync-writes`.
+    SyncWrites,
+    /// `--sync`.
+    SyncNames,
+    /// `--trace`.
+    Trace,
 }
 
 /// The words for files of all commands, in the order in which each command has its own.
@@ -220,6 +241,22 @@ pub static COMMANDS: &[CommandWords] = &[
         name: "replay",
         about: "Runs the messages on threads, and prints the cells at the end",
         words: &[Word::File(HIERARCHY), Word::File(TRACE), Word::Threads],
+    },
+    CommandWords {
+        name: "run",
+        about: "Runs the messages on files, and prints the plan of what happened",
+        words: &[
+            Word::File(HIERARCHY),
+            Word::File(TRACE),
+            Word::Run(RunWord::Folder),
+            Word::PlanWorkers(true),
+            Word::Run(RunWord::Cell),
+            Word::Run(RunWord::Tick),
+            Word::Run(RunWord::Fill),
+            Word::Run(RunWord::SyncWrites),
+            Word::Run(RunWord::SyncNames),
+            Word::Run(RunWord::Trace),
+        ],
     },
     CommandWords {
         name: "compare",

@@ -18,6 +18,7 @@ pub fn of(command: &str) -> &'static str {
         "needs" => NEEDS,
         "draw" => DRAW,
         "replay" => REPLAY,
+        "run" => RUN,
         "compare" => COMPARE,
         "rank" => RANK,
         _ => "",
@@ -170,6 +171,26 @@ A line for each cell that is not 0 after all messages:
   cell   its space and its index
   value  the number that it holds
 The text is the same for every number of workers."
+);
+
+/// What the long help of `waff run` ends with.
+const RUN: &str = with_statuses!(
+    "\
+Files DIR/SPACE.N are written over, whatever they hold: SPACE is a space, N a
+place of the list of its map, from 0. The cells of one file have one owner.
+
+Example: waff run hier.toml trace.csv disk --workers 4 --trace measured.csv
+
+Runs the messages of the trace on K threads, with reads and writes of these
+files, in the order of the tree, and prints the plan of what happened, with the
+starts and costs that were measured. The costs of the trace count for nothing;
+its releases and think times are waited for. FILE is the trace with the measured
+costs, for which waff check finds the plan to obey.
+
+Reads of what was never written touch no device: see --fill. What lies in the
+page cache is read from there. A message that takes more than 1000000 ticks ends
+the run with status 3: then the trace needs a larger tick.",
+    "Exit status:\n  0  done"
 );
 
 /// What the long help of `waff compare` ends with.

@@ -1,9 +1,9 @@
 //! The parser of the table of commands.
 use crate::commands::{
-    COMMANDS, CommandWords, FileWord, MAX_SWEPT, MAX_WORST, PICTURES, RULES, Word,
+    COMMANDS, CommandWords, FileWord, MAX_SWEPT, MAX_WORST, PICTURES, RULES, RunWord, Word,
 };
 use crate::help;
-use crate::version::{LONG_VERSION, VERSION};
+use crate::run_words::MAX_CELL;
 use clap::{Arg, ArgAction, Command, value_parser};
 use std::alloc::{AllocError, Global};
 use waff_core::limits::MAX_SEATS;
@@ -13,11 +13,20 @@ use waff_model::limits::{MAX_TICK, MAX_WORKERS};
 /// The limits that help and refusals name.
 const _: () = prove!(MAX_WORKERS == 64 && MAX_SEATS == 16 && MAX_SWEPT == 64 && MAX_RANKED == 64);
 
+/// What is told of the version of the program.
+#[derive(Clone, Copy)]
+pub struct ProgramVersion {
+    /// What `-V` tells behind the name.
+    pub short: &'static str,
+    /// What `--version` tells there.
+    pub long: &'static str,
+}
+
 /// The parser of all commands.
-pub fn parser<'a>(alloc: Global) -> Result<Command<'a>, AllocError> {
+pub fn parser<'a>(alloc: Global, version: ProgramVersion) -> Result<Command<'a>, AllocError> {
     let mut commands = Vec::new(alloc);
     push_commands(alloc, &mut commands)?;
-    waff(alloc).subcommands(commands)
+    waff(alloc, version).subcommands(commands)
 }
 
 /// Appends the parsers of the commands.
@@ -29,10 +38,10 @@ fn push_commands<'a>(alloc: Global, commands: &mut Vec<Command<'a>>) -> Result<(
 }
 
 /// The parser of the program without its commands.
-fn waff<'a>(alloc: Global) -> Command<'a> {
+fn waff<'a>(alloc: Global, version: ProgramVersion) -> Command<'a> {
     Command::new(alloc, "waff")
-        .version(VERSION)
-        .long_version(LONG_VERSION)
+        .version(version.short)
+        .long_version(version.long)
         .about("Plans messages on a tree of affinities, and shows how much can run in parallel")
         .after_help("Without words: the plan of what standard input holds.")
         .after_long_help(help::WAFF)
@@ -64,33 +73,15 @@ fn push_args<'a>(
 fn arg<'a>(alloc: Global, word: Word) -> Arg<'a> {
     match word {
         Word::File(word) => file(alloc, word),
-        Word::PlanWorkers(required) => workers(
-            alloc,
-            MAX_WORKERS,
-            "K",
-            "How many messages may run at once, from 1 to 64",
-        )
-        .short('k')
-        .required(required),
-        Word::SweepWorkers => workers(
-            alloc,
-            MAX_WORKERS,
-            "K,K,..",
-            "Up to 64 numbers of workers, each from 1 to 64",
-        )
-        .short('k')
-        .value_delimiter(','),
-        Word::Threads => workers(
-            alloc,
-            MAX_SEATS,
-            "W",
-            "How many threads, from 1 to 16; else one per processor",
-        ),
+        Word::PlanWorkers(required) => plan_workers(alloc, required),
+        Word::SweepWorkers => sweep_workers(alloc),
+        Word::Threads => threads(alloc),
         Word::Rule => rule(alloc),
         Word::Names(help) => flag(alloc, "names", help),
         Word::Clients => flag(alloc, "clients", "A line for each client; not with --names"),
         Word::Figures => flag(alloc, "figures", "With waits and latencies of each line"),
         Word::Worst => worst(alloc),
+        Word::Run(word) => run_arg(alloc, word),
         Word::Picture => picture(alloc),
         Word::From => tick(alloc, "from", "The tick at which the part begins").default_value("0"),
         Word::To => tick(
@@ -98,6 +89,39 @@ fn arg<'a>(alloc: Global, word: Word) -> Arg<'a> {
             "to",
             "The tick at which it ends [default: the length]",
         ),
+    }
+}
+
+/// A word of `run` for where and how messages are run.
+fn run_arg<'a>(alloc: Global, word: RunWord) -> Arg<'a> {
+    match word {
+        RunWord::Folder => Arg::new(alloc, "DIR")
+            .value_name("DIR")
+            .required(true)
+            .help("The folder of the files, which are written over"),
+        RunWord::Cell => cell(alloc),
+        RunWord::Tick => option(
+            alloc,
+            "tick",
+            "Microseconds of a tick, from 0.001 [default: 1]",
+        )
+        .value_name("MICROSECONDS"),
+        RunWord::Fill => flag(alloc, "fill", "Reads all cells and writes them back first"),
+        RunWord::SyncWrites => flag(
+            alloc,
+            "sync-writes",
+            "Syncs what a message wrote, at its end",
+        ),
+        RunWord::SyncNames => option(
+            alloc,
+            "sync",
+            "Messages at whose end their files are synced",
+        )
+        .value_name("NAME,..")
+        .value_delimiter(','),
+        RunWord::Trace => {
+            option(alloc, "trace", "Where the trace as measured is written").value_name("FILE")
+        }
     }
 }
 
@@ -129,6 +153,51 @@ fn workers<'a>(alloc: Global, most: u32, value_name: &'static str, help: &'stati
     option(alloc, "workers", help)
         .value_name(value_name)
         .value_parser(value_parser!(u32).range(1..=i64::from(most)))
+}
+
+/// How many planners' workers there are.
+fn plan_workers<'a>(alloc: Global, required: bool) -> Arg<'a> {
+    workers(
+        alloc,
+        MAX_WORKERS,
+        "K",
+        "How many messages may run at once, from 1 to 64",
+    )
+    .short('k')
+    .required(required)
+}
+
+/// Several numbers of planners' workers.
+fn sweep_workers<'a>(alloc: Global) -> Arg<'a> {
+    workers(
+        alloc,
+        MAX_WORKERS,
+        "K,K,..",
+        "Up to 64 numbers of workers, each from 1 to 64",
+    )
+    .short('k')
+    .value_delimiter(',')
+}
+
+/// How many threads a replay has.
+fn threads<'a>(alloc: Global) -> Arg<'a> {
+    workers(
+        alloc,
+        MAX_SEATS,
+        "W",
+        "How many threads, from 1 to 16; else one per processor",
+    )
+}
+
+/// Bytes of a cell of a run.
+fn cell<'a>(alloc: Global) -> Arg<'a> {
+    option(
+        alloc,
+        "cell",
+        "Bytes of a cell, 8 to 1048576 [default: 4096]",
+    )
+    .value_name("BYTES")
+    .value_parser(value_parser!(u32).range(8..=i64::from(MAX_CELL)))
 }
 
 /// How many messages of the greatest latency are told.

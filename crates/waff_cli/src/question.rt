@@ -4,8 +4,10 @@ ghost use Rattle.waff_cli.specs.Limits.{within_limits-prop};
 ghost use Rattle.waff_cli.specs.Requests.{IsWithinLimits, TakesFiles};
 
 use crate::files::{Told, read_files};
+use crate::parser::ProgramVersion;
 use crate::refusal::Refusal;
-use crate::words::{Asked, Request, read_words};
+use crate::run_words::RunWords;
+use crate::words::{Asked, Request, RunRequest, Wanted, read_words};
 use std::alloc::Global;
 use std::rt::Runtime;
 use std::{env, io};
@@ -18,6 +20,22 @@ pub struct Question {
     pub files: Vec<Vec<u8>>,
     ghost limits: { IsWithinLimits asked } by { within_limits-prop asked },
     ghost taken: { TakesFiles asked (length files.items) },
+}
+
+/// What the program is to do: to answer a question, or to run messages.
+#[derive(Drop)]
+pub enum Task {
+    Question(Question),
+    Run(RunTask),
+}
+
+/// Messages to be run, and the bytes of the hierarchy and of the trace.
+#[derive(Drop)]
+pub struct RunTask {
+    pub words: RunWords,
+    pub files: Vec<Vec<u8>>,
+    /// Whether somebody reads standard error.
+    pub loud: bool,
 }
 
 /// Which standard streams are those of a terminal.
@@ -38,15 +56,16 @@ const FOR_A_FILE: &str = "waff: reads the file - from standard input, up to its 
 
 /// Reads the words that the program was started with, and the files that they name. What is wrong with
 /// them is told on standard error, which `err` is too.
-pub fn read_question<R: Runtime + AllocGlobal, E: ErrorStream>(
+pub fn read_task<R: Runtime + AllocGlobal, E: ErrorStream>(
     rt: &R,
+    version: ProgramVersion,
     terminals: Terminals,
     err: &mut E,
-) -> Result<Question, Refusal> {
+) -> Result<Task, Refusal> {
     let words = words_of(rt)?;
-    let question = question_of(rt, rt.alloc(), words.as_slice(), terminals, err);
+    let task = task_of(rt, rt.alloc(), version, words.as_slice(), terminals, err);
     drop(words);
-    question
+    task
 }
 
 /// The words that the program was started with, its own name first.
@@ -58,18 +77,64 @@ fn words_of<R: Runtime + AllocGlobal>(rt: &R) -> Result<Vec<String>, Refusal> {
     }
 }
 
-/// What these words ask, of the files that they name.
+/// What these words want done, with the files that they name.
+fn task_of<R: Runtime, E: ErrorStream>(
+    rt: &R,
+    alloc: Global,
+    version: ProgramVersion,
+    words: &[String],
+    terminals: Terminals,
+    err: &mut E,
+) -> Result<Task, Refusal> {
+    match read_words(rt, alloc, version, words) {
+        Ok(Wanted::Answer(request)) => match question_of(rt, alloc, request, terminals, err) {
+            Ok(question) => Ok(Task::Question(question)),
+            Err(refusal) => Err(refusal),
+        },
+        Ok(Wanted::Run(request)) => run_of(rt, alloc, request, terminals, err),
+        Err(refusal) => Err(refusal),
+    }
+}
+
+/// A run, with the files that its words name.
+fn run_of<R: Runtime, E: ErrorStream>(
+    rt: &R,
+    alloc: Global,
+    request: RunRequest<'_>,
+    terminals: Terminals,
+    err: &mut E,
+) -> Result<Task, Refusal> {
+    let RunRequest {
+        words,
+        files: names,
+    } = request;
+    let waiting = if terminals.input {
+        Some(FOR_A_FILE)
+    } else {
+        None
+    };
+    match read_files(rt, alloc, names.as_slice(), waiting) {
+        Ok(files) => Ok(Task::Run(RunTask {
+            words,
+            files,
+            loud: terminals.error,
+        })),
+        Err(unread) => Err(unread.refusal(rt, alloc, told(false, terminals), err)),
+    }
+}
+
+/// What a request asks, of the files that it names.
 fn question_of<R: Runtime, E: ErrorStream>(
     rt: &R,
     alloc: Global,
-    words: &[String],
+    request: Request<'_>,
     terminals: Terminals,
     err: &mut E,
 ) -> Result<Question, Refusal> {
     let Request {
         asked,
         files: names,
-    } = read_words(rt, alloc, words)?;
+    } = request;
     match read_files(rt, alloc, names.as_slice(), waiting(&asked, terminals)) {
         Ok(files) => Ok(Question { asked, files }),
         Err(unread) => {

@@ -13,8 +13,9 @@ ghost use Rattle.waff_cli.specs.Words.{IsWorkersGiven};
 
 use crate::commands::{FILE_WORDS, MAX_SWEPT, MAX_WORST};
 use crate::files::INPUT;
-use crate::parser::parser;
+use crate::parser::{ProgramVersion, parser};
 use crate::refusal::Refusal;
+use crate::run_words::{RunWords, run_words};
 use clap::ArgMatches;
 use std::alloc::{AllocError, Global};
 use waff_core::limits::MAX_SEATS;
@@ -24,7 +25,22 @@ use waff_inputs::MAX_RANKED;
 use waff_list::Rule;
 use waff_model::limits::MAX_WORKERS;
 
-/// What the words ask for.
+/// What the words ask for: an answer to what is asked of files, or a run of messages.
+#[derive(Drop)]
+pub enum Wanted<'a> {
+    Answer(Request<'a>),
+    Run(RunRequest<'a>),
+}
+
+/// A run that the words ask for.
+#[derive(Drop)]
+pub struct RunRequest<'a> {
+    pub words: RunWords,
+    /// The names of the hierarchy and of the trace.
+    pub files: Vec<&'a str>,
+}
+
+/// What the words ask of files.
 #[derive(Drop)]
 pub struct Request<'a> {
     pub asked: Asked,
@@ -91,15 +107,66 @@ pub enum Drawing {
 pub fn read_words<'a, R: Print + Eprint>(
     rt: &R,
     alloc: Global,
+    version: ProgramVersion,
     words: &'a [String],
-) -> Result<Request<'a>, Refusal> {
-    match parser(alloc)?.try_get_matches_from(words) {
-        Ok(matches) => request_of(rt, alloc, &matches),
+) -> Result<Wanted<'a>, Refusal> {
+    match parser(alloc, version)?.try_get_matches_from(words) {
+        Ok(matches) => wanted_of(rt, alloc, &matches),
         Err(error) => Err(Refusal::of(rt, &error)),
     }
 }
 
 /// What the words ask for that were found.
+fn wanted_of<'a>(
+    rt: &impl Eprint,
+    alloc: Global,
+    matches: &ArgMatches<'a>,
+) -> Result<Wanted<'a>, Refusal> {
+    if let Some((command, matches)) = matches.subcommand() {
+        if command == "run" {
+            return run_of(rt, alloc, matches);
+        }
+    }
+    match request_of(rt, alloc, matches) {
+        Ok(request) => Ok(Wanted::Answer(request)),
+        Err(refusal) => Err(refusal),
+    }
+}
+
+/// The run that the words ask for.
+fn run_of<'a>(
+    rt: &impl Eprint,
+    alloc: Global,
+    matches: &ArgMatches<'a>,
+) -> Result<Wanted<'a>, Refusal> {
+    let workers = wanted_workers(matches)?;
+    let words = run_words(rt, alloc, matches, workers)?;
+    match file_names(rt, alloc, matches) {
+        Ok(files) => run_of_files(rt, words, files),
+        Err(refusal) => {
+            drop(words);
+            Err(refusal)
+        }
+    }
+}
+
+/// The run of these files, which `--trace` may not write over.
+fn run_of_files<'a>(
+    rt: &impl Eprint,
+    words: RunWords,
+    files: Vec<&'a str>,
+) -> Result<Wanted<'a>, Refusal> {
+    match words.trace_fault(files.as_slice()) {
+        None => Ok(Wanted::Run(RunRequest { words, files })),
+        Some(why) => {
+            drop(files);
+            drop(words);
+            Err(Refusal::because(rt, why))
+        }
+    }
+}
+
+/// What they ask of files.
 fn request_of<'a>(
     rt: &impl Eprint,
     alloc: Global,

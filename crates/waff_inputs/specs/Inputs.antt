@@ -1,5 +1,6 @@
 -- What the bytes of a hierarchy and of a trace are accepted as, and what a fault tells of them.
-use Rattle.std.specs.Prelude.{◌≡◌, ℕ, List, Ok, Err}
+use Rattle.std.specs.Prelude.{◌≡◌, ◌⊎◌, ℕ, List, Result, Ok, Err}
+use Rattle.waff_parse.specs.Refusals.{◌>>=◌, told}
 use Rattle.waff_model.specs.Layout.{Hierarchy}
 use Rattle.waff_model.specs.Messages.{Arrivals}
 use Rattle.waff_read.specs.Hierarchies.{hierarchy_of}
@@ -31,27 +32,33 @@ pub record IsToldOf {A : Type 0} (IsTold : Instance → A → Type 0)
   pub accepts : Accepts hierarchy_file trace_file instance
   pub told : IsTold instance a
 
--- an error tells why the hierarchy of this number is refused, or that memory was
-abbrev pub RefusesHierarchy : ℕ → List ℕ → ToolError → Type 0
-RefusesHierarchy number hierarchy_file (tool.Hier file fault) =
-    (file ≡ number) × (hierarchy_of hierarchy_file ≡ Err fault)
-RefusesHierarchy number hierarchy_file tool.Memory = Unit {0}
-RefusesHierarchy number hierarchy_file error = ⊥
+-- what the bytes of the hierarchy of this number are read as
+abbrev pub layout_of : ℕ → List ℕ → Result Hierarchy ToolError
+layout_of number hierarchy_file = told (tool.Hier number) (hierarchy_of hierarchy_file)
 
--- an error tells the first file that is refused, and why; an allocation failure and a writer's fault tell
--- nothing of the files
+-- what the bytes of a trace over a hierarchy are read as
+abbrev pub trace_over : Hierarchy → List ℕ → Result Arrivals ToolError
+trace_over layout trace_file = told tool.Trace (trace_of layout.spaces trace_file)
+
+-- what the bytes of a hierarchy and of a trace over it are read as, the hierarchy first
+abbrev pub files_of : List ℕ → List ℕ → Result (Hierarchy × Arrivals) ToolError
+files_of hierarchy_file trace_file = do
+  layout ← layout_of 1 hierarchy_file
+  trace ← trace_over layout trace_file
+  Ok (layout, trace)
+
+-- an error tells why a reading of files fails; an allocation failure and a writer's fault tell nothing of
+-- the files
+abbrev pub IsRefusal : {A : Type 0} → Result A ToolError → ToolError → Type 0
+IsRefusal read error = (read ≡ Err error) ⊎ (error ≡ tool.Memory) ⊎ (error ≡ tool.Write)
+
+-- an error tells why the hierarchy of this number is refused
+abbrev pub RefusesHierarchy : ℕ → List ℕ → ToolError → Type 0
+RefusesHierarchy number hierarchy_file = IsRefusal (layout_of number hierarchy_file)
+
+-- an error tells the first file that is refused, and why
 abbrev pub Refuses : List ℕ → List ℕ → ToolError → Type 0
-Refuses hierarchy_file trace_file (tool.Hier file fault) =
-    (file ≡ 1) × (hierarchy_of hierarchy_file ≡ Err fault)
-Refuses hierarchy_file trace_file (tool.Trace fault) =
-    (layout : Hierarchy) × (hierarchy_of hierarchy_file ≡ Ok layout)
-    × (trace_of layout.spaces trace_file ≡ Err fault)
-Refuses hierarchy_file trace_file (tool.PlanText fault) = ⊥
-Refuses hierarchy_file trace_file tool.SpacesDiffer = ⊥
-Refuses hierarchy_file trace_file tool.ModelsSame = ⊥
-Refuses hierarchy_file trace_file tool.Write = Unit {0}
-Refuses hierarchy_file trace_file tool.Memory = Unit {0}
-Refuses hierarchy_file trace_file tool.TooManyCells = ⊥
+Refuses hierarchy_file trace_file = IsRefusal (files_of hierarchy_file trace_file)
 
 -- an error that tells of the files: neither an allocation failure nor a writer's fault
 abbrev pub TellsOfFiles : ToolError → Type 0

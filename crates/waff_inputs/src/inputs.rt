@@ -4,7 +4,8 @@ ghost use Rattle.waff_model.specs.Messages.{sizes_of};
 ghost use Rattle.waff_read.specs.Hierarchies.{hierarchy_of};
 ghost use Rattle.waff_assign.specs.Case.{instance_of};
 ghost use Rattle.waff_assign.specs.Lowest.{IsAssignment};
-ghost use Rattle.waff_inputs.specs.Inputs.{Accepts, Refuses, RefusesHierarchy, instance_under};
+ghost use Rattle.waff_inputs.specs.Inputs.{Accepts, IsRefusal, Refuses, RefusesHierarchy};
+ghost use Rattle.waff_inputs.specs.Inputs.{instance_under, trace_over};
 ghost use Rattle.waff_inputs.specs.Known.{trace_of};
 
 use crate::fault::ToolError;
@@ -41,6 +42,7 @@ impl Accepted {
 }
 
 /// Reads the hierarchy of this number.
+#[tactic(auto, using(crate::proofs::Refusals::hierarchy_refuses))]
 pub fn read_numbered(alloc: Global, file: u8, hierarchy: &[u8]) -> Result<Layout, ToolError>
     ensures layout { IfOk result (λ layout. hierarchy_of hierarchy.now ≡ Ok layout) }
     ensures refused { IfErr result (RefusesHierarchy file hierarchy.now) }
@@ -56,6 +58,7 @@ pub fn read_numbered(alloc: Global, file: u8, hierarchy: &[u8]) -> Result<Layout
 pub const MAX_RANKED: usize = 64;
 
 /// Reads the files, the hierarchy first.
+#[tactic(auto, using(crate::proofs::Refusals::hierarchy_refuses, crate::proofs::Refusals::hierarchy_is_refused, crate::proofs::Refusals::trace_refuses, crate::proofs::Refusals::trace_is_refused))]
 pub fn accept(alloc: Global, hierarchy: &[u8], trace: &[u8]) -> Result<Accepted, ToolError>
     ensures accepted { IfOk result (λ a.
         Accepts hierarchy.now trace.now (instance_under a.layout a.assigned a.trace)) }
@@ -80,6 +83,7 @@ pub fn accept(alloc: Global, hierarchy: &[u8], trace: &[u8]) -> Result<Accepted,
 }
 
 /// Reads the files as `accept` does, but a long trace by several threads.
+#[tactic(auto, using(crate::proofs::Refusals::hierarchy_refuses, crate::proofs::Refusals::hierarchy_is_refused, crate::proofs::Refusals::trace_is_refused))]
 pub fn accept_by_threads<R: Threads + Sync>(
     rt: &R,
     alloc: Global,
@@ -100,6 +104,7 @@ pub fn accept_by_threads<R: Threads + Sync>(
 }
 
 /// Reads the trace over a hierarchy that was read, by several threads where it is long.
+#[tactic(auto, using(crate::proofs::Refusals::trace_refuses))]
 pub fn accept_over_layout<R: Threads + Sync>(
     rt: &R,
     alloc: Global,
@@ -110,8 +115,7 @@ pub fn accept_over_layout<R: Threads + Sync>(
         → hierarchy_of hierarchy_file ≡ Ok layout
         → Accepts hierarchy_file trace.now (instance_under a.layout a.assigned a.trace)) }
     ensures layout { IfOk result (λ a. a.layout ≡ layout) }
-    ensures refused { IfErr result (λ e. (hierarchy_file : List ℕ)
-        → hierarchy_of hierarchy_file ≡ Ok layout → Refuses hierarchy_file trace.now e) }
+    ensures refused { IfErr result (IsRefusal (trace_over layout trace.now)) }
     ensures nothing { IfErr result (λ e. e ≢ ToolError.Write) }
 {
     match read_trace_by_threads(rt, alloc, &layout, trace) {

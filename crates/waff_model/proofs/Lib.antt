@@ -5,7 +5,7 @@ mod PreorderLemmas
 mod ShareLemmas
 mod ArrangeLemmas
 pub mod LayoutLemmas
-mod SpaceLemmas
+pub mod SpaceLemmas
 pub mod ParcelLemmas
 pub mod OwnerLemmas
 pub mod TraceLemmas

@@ -49,6 +49,14 @@ name_at spaces s = option_map (λ space. space.name) (slice_get spaces s)
 abbrev pub size_at : List Space → ℕ → ℕ
 size_at spaces s = unwrap_or (option_map (λ space. space.size) (slice_get spaces s)) 0
 
+-- the unit of the map of the space s: how many cells in a row it gives to one owner
+abbrev pub unit_at : List Space → ℕ → ℕ
+unit_at spaces s = unwrap_or (option_map (λ space. space.unit) (slice_get spaces s)) 0
+
+-- how many owners the map of the space s lists
+abbrev pub owners_at : List Space → ℕ → ℕ
+owners_at spaces s = unwrap_or (option_map (λ space. length space.to) (slice_get spaces s)) 0
+
 -- the number of the space with this name
 abbrev pub space_named : List Space → List ℕ → Option ℕ
 space_named spaces name = position (λ space. bytes_eq name space.name) spaces

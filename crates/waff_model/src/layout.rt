@@ -7,6 +7,7 @@ ghost use Rattle.std.specs.Prelude.{[], ◌∷◌, ◌++◌};
 ghost use Rattle.std.specs.Prelude.{option_map, unwrap_or, None, Some, IsTrue, IfOk, IfErr, IfSome, OnOk};
 ghost use Rattle.waff_model.specs.Tree.{IsTree, number_of};
 ghost use Rattle.waff_model.specs.Layout.{IsLayout, IsCell, SameSpaces, name_at, size_at};
+ghost use Rattle.waff_model.specs.Layout.{unit_at, owners_at};
 ghost use Rattle.waff_model.specs.Layout.{space_named, owner_of, HasFewCells};
 ghost use Rattle.waff_model.specs.LayoutOf.{owners_of, map_of, space_of, hierarchy_of};
 ghost use Rattle.waff_model.specs.LayoutRefusal.{layout_refusal};
@@ -157,6 +158,26 @@ impl Layout {
     {
         let space = &self.spaces[s as usize];
         space.size()
+    }
+
+    /// How many cells in a row the map of the space gives to one owner.
+    pub fn space_unit(&self, s: u32) -> u32
+        requires { s < length self.now.spaces }
+        ensures unit { result ≡ unit_at self.now.spaces s }
+        ensures whole { 0 < result }
+    {
+        let space = &self.spaces[s as usize];
+        space.unit()
+    }
+
+    /// How many owners the map of the space lists, each as often as it is listed.
+    pub fn space_owners(&self, s: u32) -> u32
+        requires { s < length self.now.spaces }
+        ensures owners { result ≡ owners_at self.now.spaces s }
+        ensures owned { 0 < result }
+    {
+        let space = &self.spaces[s as usize];
+        space.to().len() as u32
     }
 
     /// The space with this name.

@@ -1,0 +1,27 @@
+use Rattle.std.proofs.Common.{◌∙◌, ap, subst, string_bytes}
+use Rattle.std.proofs.lemmas.Result.{IfOk-weaker}
+use Rattle.waff_inputs.specs.Inputs.{instance_under}
+use Rattle.waff_record.specs.Runs.{AreRunTexts}
+use Rattle.waff_tool.specs.Ranks.{file_at}
+use Rattle.waff_answer.specs.Answers.{bytes_of, second}
+use Rattle.waff_answer.specs.Runs.{IsRunText}
+use Rattle.waff_answer.proofs.runs.ran.Goals as goal
+
+pub returns-in-Ok : goal.returns-in-Ok
+returns-in-Ok g c =
+    let hierarchy = c.file-hierarchy.ensures ∙ ap (λ files. file_at (bytes_of files) 0) c.as_slice-files.ensures.value in
+    let trace = c.file-trace.ensures ∙ ap (λ files. file_at (bytes_of files) 1) c.as_slice-files.ensures.value in
+    let accepted = c.in-Ok.accepted in
+    let is = c.in-Ok.ensures.accepted in
+    let k = c.args.task.now.words.workers in
+    let files = bytes_of c.args.task.now.files.items in
+    IfOk-weaker c.ran_on_files-ran.result _ _
+    (λ ran texts. subst (λ h. IsRunText h (second files) k (string_bytes ran.text)) hierarchy
+    (subst (λ t. IsRunText c.file-hierarchy.result.now t k (string_bytes ran.text)) trace
+    (record {
+      instance = instance_under accepted.layout accepted.assigned accepted.trace;
+      accepts = is;
+      measured = string_bytes ran.measured;
+      texts = texts;
+    })))
+    c.ran_on_files-ran.ensures

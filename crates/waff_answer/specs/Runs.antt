@@ -1,0 +1,76 @@
+-- How the program ends where it runs messages: the text of a run on the output, or a line that tells why there is none.
+use Rattle.std.specs.Prelude.{◌≡◌, ℕ, ◌⊎◌, List, [], ◌∷◌, ◌++◌, Option, codes, decimal, string_bytes}
+use Rattle.std.specs.Io.KnownBytes.{Appends, Keeps}
+use Rattle.waff_io.specs.Writing.{AppendsPart, Tells}
+use Rattle.waff_assign.specs.Instance.{Instance}
+use Rattle.waff_inputs.specs.Fault.{fault_message, status_of}
+use Rattle.waff_inputs.specs.Inputs.{Accepts}
+use Rattle.waff_record.specs.Runs.{AreRunTexts}
+use Rattle.waff_run.specs.declared.fault.RunError.{RunError}
+use Rattle.waff_run.specs.declared.fault.RunError.TheVariants as run
+use Rattle.waff_cli.specs.declared.question.Task.{Task}
+use Rattle.waff_cli.specs.declared.question.Task.TheVariants as task
+use Rattle.waff_answer.specs.Answers.{bytes_of, first, second}
+use Rattle.waff_answer.specs.Ends.{Ends}
+
+-- the text tells of a run of the messages of these files by k workers: it is that of a plan for k workers that obeys, for the same
+-- messages with the costs that were measured
+pub record IsRunText (hierarchy_file trace_file : List ℕ) (k : ℕ) (text : List ℕ) : Type 0 where
+  pub instance : Instance
+  pub accepts : Accepts hierarchy_file trace_file instance
+  pub measured : List ℕ
+  pub texts : AreRunTexts hierarchy_file instance.trace k measured text
+
+-- the line that tells why there is no run
+abbrev pub run_message : RunError → List ℕ
+run_message (run.Tool error) = fault_message error
+run_message (run.Tick m) = codes "waff: Tick " ++ decimal m ++ 10 ∷ []
+run_message run.Folder = codes "waff: Store\n"
+run_message (run.File name) = codes "waff: Store " ++ string_bytes name ++ 10 ∷ []
+run_message run.Run = codes "waff: Run\n"
+
+-- the exit status that tells of it
+abbrev pub run_status : RunError → ℕ
+run_status (run.Tool error) = status_of error
+run_status (run.Tick m) = 3
+run_status run.Folder = 4
+run_status (run.File name) = 4
+run_status run.Run = 4
+
+-- the text of a run was written to the output, and nothing to the error stream
+pub record IsRun (hierarchy_file trace_file : List ℕ) (k : ℕ) (out new_out err new_err : Option (List ℕ))
+    (status : ℕ) : Type 0 where
+  pub text : List ℕ
+  pub is_text : IsRunText hierarchy_file trace_file k text
+  pub written : Appends out new_out text
+  pub silent : Keeps err new_err
+  pub status_is : status ≡ 0
+
+-- the output has nothing, or where it failed a part of the text of a run, from its front
+abbrev pub HasPart : List ℕ → List ℕ → ℕ → Option (List ℕ) → Option (List ℕ) → Type 0
+HasPart hierarchy_file trace_file k out new_out =
+    Keeps out new_out
+    ⊎ ((text : List ℕ) × IsRunText hierarchy_file trace_file k text × AppendsPart out new_out text)
+
+-- the error stream has the line of an error, unless it failed, and the status is that of the error
+pub record IsNoRun (hierarchy_file trace_file : List ℕ) (k : ℕ) (out new_out err new_err : Option (List ℕ))
+    (failed : Type 0) (status : ℕ) : Type 0 where
+  pub error : RunError
+  pub part : HasPart hierarchy_file trace_file k out new_out
+  pub told : Tells err new_err failed (run_message error)
+  pub status_is : status ≡ run_status error
+
+-- how the program ends where it runs the messages of these files by k workers
+abbrev pub EndsRun : List ℕ → List ℕ → ℕ → Option (List ℕ) → Option (List ℕ) → Option (List ℕ)
+    → Option (List ℕ) → Type 0 → ℕ → Type 0
+EndsRun hierarchy_file trace_file k out new_out err new_err failed status =
+    IsRun hierarchy_file trace_file k out new_out err new_err status
+    ⊎ IsNoRun hierarchy_file trace_file k out new_out err new_err failed status
+
+-- how it ends with what it is to do
+abbrev pub EndsTask : Task → Option (List ℕ) → Option (List ℕ) → Option (List ℕ) → Option (List ℕ) → Type 0 → ℕ → Type 0
+EndsTask (task.Question question) out new_out err new_err failed status =
+    Ends question.asked (bytes_of question.files.items) out new_out err new_err failed status
+EndsTask (task.Run wanted) out new_out err new_err failed status =
+    EndsRun (first (bytes_of wanted.files.items)) (second (bytes_of wanted.files.items)) wanted.words.workers
+    out new_out err new_err failed status

@@ -1,0 +1,221 @@
+-- What the code does with a queue keeps it.
+use Rattle.std.proofs.Common.{◌≡◌, ◌≢◌, ℕ, ◌+◌, ◌-◌, ◌<◌, ◌≤◌, ◌⊎◌, inl, inr, false, true, List, [], ◌∷◌, ◌++◌, length, map, Contains, Option, Some, None, refl, ap, sym, ◌∙◌, subst, arith}
+use Rattle.std.specs.List.{range_with_len}
+use Rattle.std.proofs.lemmas.Bool.{false≢true}
+use Rattle.std.proofs.lemmas.List.{length-map, map-id}
+use Rattle.std.proofs.lemmas.List.FromFn.{map-range_with_len_more}
+use Rattle.std.proofs.lemmas.List.Elements.{Contains-get_or}
+use Rattle.std.proofs.lemmas.List.Sorted.{Contains-permutation, IsPermutation-sym}
+use Rattle.waff_model.specs.Versions.{has_clients}
+use Rattle.waff_model.specs.declared.message.Version.{Version}
+use Rattle.waff_model.specs.declared.message.Version.TheVariants.{V1, V2, V3}
+use Rattle.waff_model.specs.declared.preorder.Span.{Span}
+use Rattle.waff_assign.specs.Order.{affinity_of}
+use Rattle.waff_assign.specs.declared.case.Case.{Case}
+use Rattle.waff_order.specs.Joined.{Joined, HaveJoined}
+use Rattle.waff_order.specs.Needs.{IsNeed}
+use Rattle.waff_plan.specs.Due.{LeavesDue}
+use Rattle.waff_plan.specs.Obeys.{FollowsNone}
+use Rattle.waff_plan.specs.Pending.{AreFirst, IsFollower}
+use Rattle.waff_plan.specs.Work.{IsAmongFirst, issue_of}
+use Rattle.waff_plan.specs.declared.timing.Timing.{Timing}
+use Rattle.waff_line.specs.Lined.{course_in, IsFollowedBy, IsLined, first_joined, latecomers, served_at}
+use Rattle.waff_line.specs.Machine.{Course, IsCourse, State, HasEnded, IsRunning, MayBegin, Reaches, Runs, Steps, begun_on, ended_at, finish_at, issue_in, measured, opening, start_in, told}
+use Rattle.waff_line.specs.Noted.{CanBegin}
+use Rattle.waff_line.specs.declared.event.Event.{Event}
+use Rattle.waff_line.specs.Queued.{IsQueue, course_of, value_by, value_of}
+use Rattle.waff_line.specs.declared.queue.Queue.{Queue}
+use Rattle.waff_line.proofs.Lining.{clear_at, contains_first, lined_more}
+use Rattle.waff_line.proofs.Queueing.{by_version, comes_by, issue_alone, key_by_issue, latecomers_all, latecomers_none, lined_begun, lined_ended_by_issue, lined_ended_by_number, lined_opening_by_issue, lined_opening_by_number, lined_told}
+use Rattle.waff_line.proofs.Sound.{Sound, sound_reached}
+use Rattle.waff_line.proofs.Turns.{begun_number}
+
+pub clients_third : (version : Version) → has_clients version ≡ true → version ≡ V3
+clients_third V1 has = absurd (false≢true has)
+clients_third V2 has = absurd (false≢true has)
+clients_third V3 has = refl
+
+pub no_clients : (version : Version) → has_clients version ≡ false → version ≢ V3
+no_clients version has is = false≢true (sym has ∙ ap has_clients is)
+
+pub first_by_issue : (version : Version) (count : ℕ) → version ≡ V3 → first_joined version count ≡ []
+first_by_issue version count is = ap (λ v. first_joined v count) is
+
+pub first_by_number : (version : Version) (count : ℕ) → version ≢ V3 → first_joined version count ≡ range_with_len 1 count
+first_by_number V1 count other = refl
+first_by_number V2 count other = refl
+first_by_number V3 count other = absurd (other refl)
+
+-- when a run begins
+pub lined_opening : (course : Course) (spans : List Span) (joining : Joined) (messages : List ℕ) (due : List (ℕ × ℕ))
+    → (course.version ≢ V3 → FollowsNone course.work) → course.work.count ≡ length course.assigned
+    → messages ≡ first_joined course.version (length course.assigned)
+    → HaveJoined course.tree spans (map (affinity_of course.assigned) messages) joining → AreFirst course.work (issue_of course.work) due
+    → IsLined course (opening course) spans joining messages (latecomers course.version due)
+lined_opening course spans joining messages due alone many are have first = elim (by_version course.version) [
+  | inl third ↦
+      let none : messages ≡ [] = are ∙ first_by_issue course.version (length course.assigned) third in
+      subst (λ ms. IsLined course (opening course) spans joining ms (latecomers course.version due)) (sym none)
+      (subst (λ ws. IsLined course (opening course) spans joining [] ws) (sym (latecomers_all course.version due third))
+      (lined_opening_by_issue course spans joining third due first
+      (subst (λ ms. HaveJoined course.tree spans (map (affinity_of course.assigned) ms) joining) none have)))
+  | inr other ↦
+      let all : messages ≡ range_with_len 1 course.work.count
+      = are ∙ first_by_number course.version (length course.assigned) other ∙ ap (λ n. range_with_len 1 n) (sym many) in
+      subst (λ ms. IsLined course (opening course) spans joining ms (latecomers course.version due)) (sym all)
+      (subst (λ ws. IsLined course (opening course) spans joining (range_with_len 1 course.work.count) ws) (sym (latecomers_none course.version due other))
+      (lined_opening_by_number course spans joining other (alone other)
+      (subst (λ ms. HaveJoined course.tree spans (map (affinity_of course.assigned) ms) joining) all have)))
+]
+
+-- when a message ends
+pub lined_ended : (course : Course) (s : State) (is : IsCourse course) (m now : ℕ) (sound : Sound course s) (running : IsRunning s m)
+    (spans : List Span) (joining : Joined) (messages : List ℕ) (next : ℕ) (old new : List (ℕ × ℕ))
+    → IsFollower course.work course.work.count m next → IsFollowedBy course.work (finish_at s m now) next old new
+    → IsLined course s spans joining messages (latecomers course.version old)
+    → IsLined course (ended_at s m now) spans joining messages (latecomers course.version new)
+lined_ended course s is m now sound running spans joining messages next old new follower followed h = elim (by_version course.version) [
+  | inl third ↦
+      subst (λ ws. IsLined course (ended_at s m now) spans joining messages ws) (sym (latecomers_all course.version new third))
+      (lined_ended_by_issue course s spans joining messages old
+      (subst (λ ws. IsLined course s spans joining messages ws) (latecomers_all course.version old third) h)
+      is m now sound running third next new follower followed)
+  | inr other ↦
+      subst (λ ws. IsLined course (ended_at s m now) spans joining messages ws)
+      (latecomers_none course.version old other ∙ sym (latecomers_none course.version new other))
+      (lined_ended_by_number course s spans joining messages (latecomers course.version old) h is m now sound running other)
+]
+
+-- one more event
+runs_more : (course : Course) (s : State) (events : List Event) (t : State) (event : Event) (u : State)
+    → Runs course s events t → Steps course t event u → Runs course s (events ++ event ∷ []) u
+runs_more course s [] t event u same step = (u, subst (λ x. Steps course x event u) (sym same) step, refl)
+runs_more course s (first ∷ events) t event u (v, leads, rest) step = (v, leads, runs_more course v events t event u rest step)
+
+pub reaches_more : (course : Course) (s : State) (event : Event) (t : State) → Reaches course s → Steps course s event t → Reaches course t
+reaches_more course s event t (events, runs) step = (events ++ event ∷ [], runs_more course (opening course) events s event t runs step)
+
+module _ (q : Queue) (workers : ℕ) (s : State) (h : IsQueue q workers s) where
+  pub is_course : 1 ≤ workers → IsCourse (course_of q workers)
+  is_course staffed = record { earlier = h.timings.earlier; alone = h.timings.alone; many = h.many; staffed = staffed }
+
+  pub queue_told : (now : ℕ) → IsQueue q workers (told s now)
+  queue_told now = record {
+    many = h.many;
+    timings = h.timings;
+    nexts = h.nexts;
+    next_count = h.next_count;
+    lined = λ going.
+        lined_told (course_of q workers) s q.order.spans.now q.order.joining q.order.messages.items (latecomers q.case.trace.now.version q.due)
+        (h.lined going) now;
+  }
+
+  pub queue_begun : (x m : ℕ) → Reaches (course_of q workers) s → MayBegin (course_of q workers) s x m → IsQueue q workers (begun_on s x m)
+  queue_begun x m reached may = record {
+    many = h.many;
+    timings = h.timings;
+    nexts = h.nexts;
+    next_count = h.next_count;
+    lined = λ goes.
+        let from = may.worker.from in
+        let to = may.worker.to in
+        lined_begun (course_of q workers) s q.order.spans.now q.order.joining q.order.messages.items (latecomers q.case.trace.now.version q.due)
+        (h.lined goes) x m (sound_reached (course_of q workers) (is_course (omega (arith, from, to))) s reached) may;
+  }
+
+  -- the message at a place that has joined
+  module _ (going : q.is_over ≡ false) where
+    abbrev messages : List ℕ
+    messages = q.order.messages.items
+
+    abbrev course : Course
+    course = course_of q workers
+
+    line : IsLined course s q.order.spans.now q.order.joining messages (latecomers q.case.trace.now.version q.due)
+    line = h.lined going
+
+    pub counts : length q.order.joining.needs ≡ length messages
+    counts = line.joined.needs.count ∙ length-map messages (affinity_of q.case.assigned.now)
+
+    module _ (place : ℕ) (number : IsAmongFirst (length messages) place) where
+      joins : Contains messages (served_at messages place)
+      joins = let from = number.from in let to = number.to in Contains-get_or messages (place - 1) 0 (omega (arith, from, to))
+
+      pub number_at : IsAmongFirst (length q.timings.items) (served_at messages place)
+      number_at = (line.each (served_at messages place) joins).0
+
+      pub needs_at : IsAmongFirst (length q.order.joining.needs) place
+      needs_at = let from = number.from in let to = number.to in let as_many = counts in record { from = from; to = omega (arith, to, as_many) }
+
+      pub may_at : (x : ℕ) → Reaches course s → CanBegin s workers x (served_at messages place)
+          → course.work.floor (served_at messages place) ≤ s.clock
+          → ((k : ℕ) → IsNeed q.order.joining.needs k place → HasEnded s (served_at messages k))
+          → MayBegin course s x (served_at messages place)
+      may_at x reached can early done =
+          let from = can.worker.from in
+          let to = can.worker.to in
+          let is = is_course (omega (arith, from, to)) in
+          let m = served_at messages place in
+          record {
+            worker = can.worker;
+            free = can.free;
+            number = number_at;
+            waits = can.waits;
+            issued = (line.each m joins).1;
+            come = comes_by q.case.trace.now.version (issue_in course s m) s.clock
+                (λ third. let come = line.come third m joins in let key = key_by_issue course s m third in omega (arith, come, key))
+                (λ other.
+                let alone = issue_alone (measured course s) (start_in s) m (h.timings.alone other m) in
+                omega (arith, alone, early));
+            clear = clear_at course s q.order.spans.now q.order.joining messages (latecomers q.case.trace.now.version q.due) line
+                (sound_reached course is s reached) place number done;
+          }
+
+    -- the first of those that are due joins
+    module _ (third : q.case.trace.now.version ≡ V3) (r : ℕ × ℕ) (rest : List (ℕ × ℕ)) (leaves : LeavesDue q.due r rest) where
+      line_due : IsLined course s q.order.spans.now q.order.joining messages q.due
+      line_due = subst (λ ws. IsLined course s q.order.spans.now q.order.joining messages ws) (latecomers_all q.case.trace.now.version q.due third) line
+
+      pub joins_number : IsAmongFirst (length q.case.assigned.now) r.1
+      joins_number =
+          let waited = Contains-permutation (r ∷ rest) q.due r (IsPermutation-sym q.due (r ∷ rest) leaves.rest) (contains_first r rest) in
+          let number = (line_due.waiting r waited).number in
+          let from = number.from in
+          let to = number.to in
+          let many = h.many in
+          record { from = from; to = omega (arith, to, many) }
+
+      pub joins_more : r.0 < s.clock → (after : Joined)
+          → HaveJoined q.case.tree.now q.order.spans.now
+          (map (affinity_of q.case.assigned.now) messages ++ affinity_of q.case.assigned.now r.1 ∷ []) after
+          → IsLined course s q.order.spans.now after (messages ++ r.1 ∷ []) (latecomers q.case.trace.now.version rest)
+      joins_more passed after have =
+          subst (λ ws. IsLined course s q.order.spans.now after (messages ++ r.1 ∷ []) ws) (sym (latecomers_all q.case.trace.now.version rest third))
+          (lined_more course s q.order.spans.now q.order.joining messages q.due line_due r rest leaves passed after have)
+
+-- what is seen of a line goes by its parts
+pub value_same : (q other : Queue) (n : State × ℕ) → other.case ≡ q.case → other.timings.items ≡ q.timings.items → value_of other n ≡ value_of q n
+value_same q other n case timings =
+    ap (λ (c : Case). value_by c other.timings.items n) case ∙ ap (λ (ts : List Timing). value_by q.case ts n) timings
+
+pub course_same : (q other : Queue) (workers : ℕ) → other.case ≡ q.case → other.timings.items ≡ q.timings.items → course_of other workers ≡ course_of q workers
+course_same q other workers case timings =
+    ap (λ (c : Case). course_in (value_by c other.timings.items (fresh, workers))) case
+    ∙ ap (λ (ts : List Timing). course_in (value_by q.case ts (fresh, workers))) timings
+  where
+    fresh : State
+    fresh = record { clock = 0; turns = [] }
+
+pub range_more : (a n j : ℕ) → a + n ≡ j → range_with_len a (n + 1) ≡ range_with_len a n ++ j ∷ []
+range_more a n j is =
+    sym (map-id (range_with_len a (n + 1))) ∙ map-range_with_len_more (λ x. x) a n j is ∙ ap (λ xs. xs ++ j ∷ []) (map-id (range_with_len a n))
+
+pub running_number : (q : Queue) (workers : ℕ) (s : State) (h : IsQueue q workers s) → 1 ≤ workers → Reaches (course_of q workers) s
+    → (m : ℕ) → IsRunning s m → IsAmongFirst (length q.timings.items) m
+running_number q workers s h staffed reached m running =
+    let sound = sound_reached (course_of q workers) (is_course q workers s h staffed) s reached in
+    let number = begun_number s m running.begun in
+    let from = number.from in
+    let to = number.to in
+    let many = sound.many in
+    record { from = from; to = omega (arith, to, many) }

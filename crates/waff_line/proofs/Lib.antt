@@ -1,0 +1,15 @@
+pub mod Turns
+pub mod Issuing
+pub mod Sound
+mod Obeying
+mod Lining
+mod Noting
+mod Queueing
+mod Keeping
+mod Going
+mod Firsts
+mod GoingOn
+mod Seating
+mod Workers
+mod Counting
+mod Ending

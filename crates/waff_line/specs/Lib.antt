@@ -1,0 +1,5 @@
+pub mod Machine
+pub mod Laws
+pub mod Lined
+pub mod Noted
+pub mod Queued

@@ -1,0 +1,30 @@
+//! The line of a run: which messages have been issued, which may begin, and which run.
+//!
+//! It is pure: no thread, clock or file is in it. Events change it: it is *told* a time, the next message
+//! *joins*, one *begins* on a worker, and one *ends*. Among messages that exclude each other the one that
+//! joined first is served first. They join in the order of their issues, and in the first two versions of
+//! traces, which know no clients, in that of their numbers.
+//! - `line`: the line and its events.
+//! - `notes`: what has happened; `turn`: when each message began and finished, and on which worker.
+//! - `queue`: which messages are due, and which may begin; `order`: the order in which they are served.
+//! - `waiting`: which message to begin next, as a proposal; `dependents`: who waits for whom.
+//! - `event`: what happens to the machine of a run, by which the line goes; `laws`: what holds of it.
+//!
+//! All times are ticks of the run, from its beginning. The line takes the greatest time that it was told, so
+//! that a clock that stands or goes back changes nothing. A finish lies at least one tick behind its start.
+#![tactic(auto)]
+
+mod dependents;
+mod event;
+pub mod laws;
+mod line;
+mod notes;
+mod order;
+mod queue;
+mod turn;
+mod waiting;
+
+pub use event::Event;
+pub use line::{Line, Unready};
+pub use queue::Ended;
+pub use turn::Turn;

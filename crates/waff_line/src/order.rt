@@ -1,0 +1,98 @@
+//! The order in which messages that exclude each other are served.
+
+ghost use Rattle.std.specs.Prelude.{◌≡◌, ◌≤◌, ℕ, List, [], ◌∷◌, ◌++◌, length, true, IfOk, OnOk};
+ghost use Rattle.waff_model.specs.Numbers.{IsAmongFirst};
+ghost use Rattle.waff_model.specs.Tree.{Node};
+ghost use Rattle.waff_model.specs.declared.limits.TheConstants.{MAX_MESSAGES};
+ghost use Rattle.waff_order.specs.Joined.{HaveJoined, IsJoined};
+ghost use Rattle.waff_order.specs.Needs.{IsNeed};
+ghost use Rattle.waff_line.specs.Lined.{served_at};
+ghost use Rattle.waff_line.specs.Machine.{HasEnded};
+
+use crate::notes::Notes;
+use std::alloc::{AllocError, Global};
+use waff_assign::Case;
+use waff_model::limits::MAX_MESSAGES;
+use waff_model::{AffinityId, Span};
+use waff_order::Joining;
+
+/// The messages that have joined, in the order in which they are served, with the needs of each by their
+/// places, from 1.
+#[derive(Drop)]
+pub(crate) struct Order<'a> {
+    pub spans: &'a [Span],
+    pub joining: Joining,
+    pub messages: Vec<u32>,
+}
+
+impl<'a> Order<'a> {
+    /// No message of the case has joined, and there is room for all of them.
+    pub fn none(alloc: Global, case: &Case<'a>) -> Result<Self, AllocError>
+        ensures messages { IfOk result (λ order. order.messages.items ≡ []) }
+        ensures joined { IfOk result (λ order.
+            HaveJoined case.now.tree.now order.spans.now [] order.joining) }
+    {
+        let count = case.assigned.len() as usize;
+        Ok(Order {
+            spans: case.tree.spans(),
+            joining: Joining::none(alloc, case.tree, count)?,
+            messages: Vec::with_capacity(alloc, count)?,
+        })
+    }
+
+    /// Message `m` of this affinity joins as the last one. After an error the order is good for nothing.
+    pub fn join(&mut self, affinity: AffinityId, m: u32) -> Result<(), AllocError>
+        requires joined { IsJoined self.old.spans.now self.old.joining }
+        requires count { length self.old.joining.needs ≡ length self.old.messages.items }
+        ensures spans { self.new.spans.now ≡ self.old.spans.now }
+        ensures messages { OnOk result (self.new.messages.items ≡ self.old.messages.items ++ m ∷ []) }
+        ensures joined { OnOk result ((tree : List Node) (assigned : List ℕ)
+            → HaveJoined tree self.old.spans.now assigned self.old.joining
+            → HaveJoined tree self.old.spans.now (assigned ++ affinity.0 ∷ []) self.new.joining) }
+        ensures few { OnOk result (length self.new.messages.items ≤ MAX_MESSAGES) }
+    {
+        if affinity.0 as usize >= self.spans.len() || self.messages.len() >= MAX_MESSAGES {
+            return Err(AllocError);
+        }
+        self.joining.join(self.spans, affinity)?;
+        self.messages.push(m)?;
+        Ok(())
+    }
+
+    /// The message at this place, 0 where there is none.
+    pub fn message(&self, place: u32) -> u32
+        ensures { result ≡ served_at self.now.messages.items place }
+    {
+        let at = (place as usize).saturating_sub(1);
+        if at >= self.messages.len() {
+            return 0;
+        }
+        self.messages[at]
+    }
+
+    /// Whether each need of the message at this place has ended.
+    pub fn is_clear(&self, notes: &Notes, place: u32) -> bool
+        requires { IsAmongFirst (length self.now.joining.needs) place }
+        ensures { result ≡ true → (k : ℕ) → IsNeed self.now.joining.needs k place
+            → HasEnded notes.now.0 (served_at self.now.messages.items k) }
+    {
+        for need in self.joining.of(place) {
+            if !notes.turn(self.message(*need)).ended {
+                return false;
+            }
+        }
+        true
+    }
+
+    /// Writes the needs of the message at this place to the list, by number.
+    pub fn list_needs(&self, place: u32, list: &mut Vec<u32>) -> Result<(), AllocError> {
+        list.clear();
+        if place == 0 || place as usize > self.joining.len() {
+            return Ok(());
+        }
+        for need in self.joining.of(place) {
+            list.push(self.message(*need))?;
+        }
+        Ok(())
+    }
+}

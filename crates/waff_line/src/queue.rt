@@ -1,0 +1,235 @@
+//! Which messages are due, which have joined the order of service, and what is issued when one ends.
+
+ghost use Rattle.std.specs.Prelude.{◌≡◌, ◌≢◌, ◌-◌, ◌≤◌, ℕ, length, map, false, All, IfOk, IfSome, OnOk};
+ghost use Rattle.std.specs.Prelude.{slice_index};
+ghost use Rattle.waff_assign.specs.Order.{affinity_of};
+ghost use Rattle.waff_order.specs.Joined.{HaveJoined};
+ghost use Rattle.waff_model.specs.Numbers.{IsAmongFirst};
+ghost use Rattle.waff_model.specs.declared.message.Version.TheVariants.{V3};
+ghost use Rattle.waff_plan.specs.Timetable.{timings_of};
+ghost use Rattle.waff_plan.specs.Timing.{IsTiming, work_of};
+ghost use Rattle.waff_line.specs.Machine.{IsRunning, MayBegin, Reaches, ended_at, opening};
+ghost use Rattle.waff_line.specs.Noted.{CanBegin};
+ghost use Rattle.waff_line.specs.Lined.{IsFollowedBy, first_joined};
+ghost use Rattle.waff_line.specs.Queued.{IsQueue, course_of};
+ghost use Rattle.waff_line.specs.declared.queue.TheConstants.{MAX_RUN};
+
+use crate::notes::Notes;
+use crate::order::Order;
+use std::alloc::{AllocError, Global};
+use waff_assign::Case;
+use waff_model::limits::{MAX_COST, MAX_TICK, MAX_WORKERS};
+use waff_plan::followers::{first_issues, followers};
+use waff_plan::{Due, NEVER, Timing, timings};
+
+/// The most ticks of a run: its sums then fit into the text of a plan for as many workers as there can be.
+const MAX_RUN: u64 = MAX_TICK / MAX_WORKERS as u64;
+
+/// How the end of a message went.
+#[derive(Clone, Copy, Debug, PartialEq)]
+pub enum Ended {
+    Well,
+    /// It ran for more ticks than a trace can tell, or the run has more of them than a plan can.
+    TooLong,
+    /// It did not run, so nothing has changed.
+    NotRunning,
+}
+
+/// A message that has joined: its issue, and its place in the order of service, from 1.
+#[derive(Clone, Copy)]
+pub(crate) struct Joined {
+    pub issue: u64,
+    pub message: u32,
+    pub place: u32,
+}
+
+/// The messages of a case that are due, and those that have joined the order of service. By issue they join it
+/// one after another; in the first two versions of traces, which are served by number, all have joined it from
+/// the beginning, and wait for their releases alone.
+#[derive(Drop)]
+pub(crate) struct Queue<'a> {
+    pub case: Case<'a>,
+    pub timings: Vec<Timing>,
+    /// The message that follows each by its client, 0 for none.
+    pub nexts: Vec<u32>,
+    pub order: Order<'a>,
+    /// The messages whose issue is known and that have not joined.
+    pub due: Due,
+    /// Nothing joins or begins any more: memory was refused, or a message ran for too long.
+    pub is_over: bool,
+}
+
+impl<'a> Queue<'a> {
+    /// The queue of a case before anything has happened.
+    pub fn of(alloc: Global, case: Case<'a>) -> Result<Self, AllocError>
+        ensures case { IfOk result (λ queue. queue.case ≡ case.entry) }
+        ensures timings { IfOk result (λ queue.
+            queue.timings.items ≡ timings_of case.entry.trace.now.messages) }
+        ensures queue { IfOk result (λ queue.
+            (workers : ℕ) → IsQueue queue workers (opening (course_of queue workers))) }
+    {
+        let timings = timings(alloc, case.trace)?;
+        let nexts = followers(alloc, timings.as_slice())?;
+        let due = first_issues(alloc, timings.as_slice())?;
+        let order = first_order(alloc, &case)?;
+        Ok(Queue {
+            case,
+            timings,
+            nexts,
+            order,
+            due,
+            is_over: false,
+        })
+    }
+
+    /// The tick at which the next message is due, or `NEVER` where none is known.
+    pub fn next(&self) -> u64 {
+        self.due.next()
+    }
+
+    /// The next message joins, where its issue has come.
+    pub fn join(&mut self, notes: &Notes) -> Result<Option<Joined>, AllocError>
+        requires { IsQueue self.old notes.now.1 notes.now.0 }
+        ensures case { self.new.case ≡ self.old.case }
+        ensures timings { self.new.timings.items ≡ self.old.timings.items }
+        ensures queue { IsQueue self.new notes.now.1 notes.now.0 }
+    {
+        if self.is_over {
+            return Ok(None);
+        }
+        if self.case.trace.version().has_clients() {
+            self.join_by_issue(notes)
+        } else {
+            Ok(take_due(&mut self.due, notes.clock()))
+        }
+    }
+
+    /// By issue a message joins when the tick of its issue is over: all that are issued at it are known then.
+    fn join_by_issue(&mut self, notes: &Notes) -> Result<Option<Joined>, AllocError>
+        requires queue { IsQueue self.old notes.now.1 notes.now.0 }
+        requires version { self.old.case.trace.now.version ≡ V3 }
+        requires going { self.old.is_over ≡ false }
+        ensures case { self.new.case ≡ self.old.case }
+        ensures timings { self.new.timings.items ≡ self.old.timings.items }
+        ensures queue { IsQueue self.new notes.now.1 notes.now.0 }
+    {
+        let clock = notes.clock();
+        if clock == 0 {
+            return Ok(None);
+        }
+        let Some((issue, message)) = self.due.pop_by(clock - 1) else {
+            return Ok(None);
+        };
+        self.is_over = true;
+        self.order.join(self.case.assigned.of(message), message)?;
+        self.is_over = false;
+        Ok(Some(Joined {
+            issue,
+            message,
+            place: self.order.messages.len() as u32,
+        }))
+    }
+
+    /// The message at this place of the order, if it may begin on this worker.
+    pub fn may_begin(&self, notes: &Notes, worker: u32, place: u32) -> Option<u32>
+        requires queue { IsQueue self.now notes.now.1 notes.now.0 }
+        requires reached { Reaches (course_of self.now notes.now.1) notes.now.0 }
+        ensures { IfSome result (λ m. CanBegin notes.now.0 notes.now.1 worker m
+            × MayBegin (course_of self.now notes.now.1) notes.now.0 worker m) }
+    {
+        if self.is_over || place == 0 || place as usize > self.order.messages.len() {
+            return None;
+        }
+        let m = self.order.message(place);
+        if u64::from(self.timings[m as usize - 1].floor) > notes.clock() {
+            return None;
+        }
+        if notes.can_begin(worker, m) && self.order.is_clear(notes, place) {
+            Some(m)
+        } else {
+            None
+        }
+    }
+
+    /// Message `m`, which runs, ends at this time. The one that follows it by its client has its issue then.
+    pub fn end(&mut self, notes: &mut Notes, m: u32, now: u64) -> Result<Ended, AllocError>
+        requires running { IsRunning notes.old.0 m }
+        requires queue { IsQueue self.old notes.old.1 notes.old.0 }
+        requires reached { Reaches (course_of self.old notes.old.1) notes.old.0 }
+        ensures case { self.new.case ≡ self.old.case }
+        ensures timings { self.new.timings.items ≡ self.old.timings.items }
+        ensures ended { notes.new ≡ (ended_at notes.old.0 m now, notes.old.1) }
+        ensures queue { IsQueue self.new notes.new.1 notes.new.0 }
+    {
+        let was_over = self.is_over;
+        self.is_over = true;
+        let start = notes.turn(m).start;
+        let finish = notes.end(m, now);
+        if finish - start > u64::from(MAX_COST) || finish > MAX_RUN {
+            return Ok(Ended::TooLong);
+        }
+        follow(
+            self.timings.as_slice(),
+            self.nexts.as_slice(),
+            &mut self.due,
+            m,
+            finish,
+        )?;
+        self.is_over = was_over;
+        Ok(Ended::Well)
+    }
+}
+
+/// By number all have joined the order before: the next message is due.
+fn take_due(due: &mut Due, clock: u64) -> Option<Joined> {
+    if clock == NEVER {
+        return None;
+    }
+    let (issue, message) = due.pop_by(clock)?;
+    Some(Joined {
+        issue,
+        message,
+        place: message,
+    })
+}
+
+/// The message that follows `m`, which has finished at this tick, is due at its issue.
+fn follow(
+    timings: &[Timing],
+    nexts: &[u32],
+    due: &mut Due,
+    m: u32,
+    finish: u64,
+) -> Result<(), AllocError>
+    requires number { IsAmongFirst (length nexts.now) m }
+    requires nexts { slice_index nexts.now (m - 1) ≤ length timings.now }
+    requires early { finish ≤ MAX_RUN }
+    requires timings { All IsTiming timings.now }
+    ensures { OnOk result (IsFollowedBy (work_of timings.now) finish
+        (slice_index nexts.now (m - 1)) due.old due.new) }
+{
+    let next = nexts[m as usize - 1];
+    if next == 0 {
+        return Ok(());
+    }
+    let timing = timings[next as usize - 1];
+    let thought = finish + u64::from(timing.think);
+    due.push(u64::from(timing.floor).max(thought), next)
+}
+
+/// The order of service of a case when its run begins.
+fn first_order<'a>(alloc: Global, case: &Case<'a>) -> Result<Order<'a>, AllocError>
+    ensures joined { IfOk result (λ order. HaveJoined case.now.tree.now order.spans.now
+        (map (affinity_of case.now.assigned.now) order.messages.items) order.joining) }
+    ensures messages { IfOk result (λ order. order.messages.items
+        ≡ first_joined case.now.trace.now.version (length case.now.assigned.now)) }
+{
+    let mut order = Order::none(alloc, case)?;
+    if case.trace.version().has_clients() {
+        return Ok(order);
+    }
+    for m in 1..case.assigned.len() + 1 {
+        order.join(case.assigned.of(m), m)?;
+    }
+    Ok(order)
+}

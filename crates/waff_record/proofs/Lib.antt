@@ -1,0 +1,4 @@
+mod Alike
+mod ByIssue
+mod Kept
+mod ServedByIssue

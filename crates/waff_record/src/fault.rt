@@ -1,0 +1,17 @@
+//! Why nothing is told of a run.
+
+use std::alloc::AllocError;
+
+/// Why nothing is told of a run.
+#[derive(Clone, Copy, Debug, PartialEq)]
+pub enum RecordError {
+    Memory,
+    /// The turns are none of a run of this trace that obeys.
+    Refused,
+}
+
+impl From<AllocError> for RecordError {
+    fn from(_error: AllocError) -> RecordError {
+        RecordError::Memory
+    }
+}

@@ -1,0 +1,166 @@
+//! A run, from the accepted files to the two texts.
+
+ghost use Rattle.std.specs.Prelude.{IfOk, string_bytes};
+ghost use Rattle.waff_plan.specs.Bound.{IsWorkers};
+ghost use Rattle.waff_record.specs.Runs.{AreRunTexts};
+
+use crate::fault::RunError;
+use crate::perform::{Room, Syncs, fill};
+use crate::places::Places;
+use crate::spots::{longest_call, spots};
+use crate::store::{Store, file_name};
+use crate::workers::{Pace, Stopped, run};
+use std::alloc::{AllocError, Global};
+use std::marker::Sync;
+use std::rt::Clock;
+use std::sync::Wait;
+use std::thread::Threads;
+use waff_inputs::Accepted;
+use waff_line::Turn;
+use waff_list::{Rule, list_plan_of};
+use waff_model::Trace;
+use waff_record::{Recorded, accept_measured, record_of};
+
+/// How a run is run.
+#[derive(Clone, Copy)]
+pub struct Settings<'a> {
+    pub pace: Pace,
+    /// Whether each cell that the trace names is read and written back first.
+    pub fill: bool,
+    /// Whether the files that a message has written are synced at its end.
+    pub sync_writes: bool,
+    /// The names of the messages at whose end the files of their cells are synced.
+    pub syncs: &'a [String],
+}
+
+/// Runs the messages of the trace, which these bytes are, on the store.
+pub fn run_on<R: Threads + Wait + Clock + Eprint + Sync, S: Store + Sync>(
+    rt: &R,
+    alloc: Global,
+    accepted: &Accepted,
+    hierarchy: &[u8],
+    trace: &[u8],
+    store: &S,
+    places: &Places,
+    settings: &Settings<'_>,
+) -> Result<Recorded, RunError>
+    requires workers { IsWorkers settings.now.pace.workers }
+    ensures { IfOk result (λ ran. AreRunTexts hierarchy.now accepted.now.trace
+        settings.now.pace.workers (string_bytes ran.measured) (string_bytes ran.text)) }
+{
+    let turns = turns_of(rt, alloc, accepted, store, places, settings)?;
+    let workers = settings.pace.workers;
+    let ran = record_of(
+        rt,
+        alloc,
+        &accepted.trace,
+        hierarchy,
+        trace,
+        turns.as_slice(),
+        workers,
+    );
+    drop(turns);
+    match ran {
+        Ok(recorded) => Ok(recorded),
+        Err(error) => Err(RunError::from(error)),
+    }
+}
+
+/// What happens when the messages are run.
+fn turns_of<R: Threads + Wait + Clock + Eprint + Sync, S: Store + Sync>(
+    rt: &R,
+    alloc: Global,
+    accepted: &Accepted,
+    store: &S,
+    places: &Places,
+    settings: &Settings<'_>,
+) -> Result<Vec<Turn>, RunError> {
+    let longest = longest_call(&accepted.trace, places);
+    if settings.fill {
+        fill_all(alloc, accepted, store, places)?;
+    }
+    let syncs = syncs_of(alloc, &accepted.trace, settings)?;
+    let case = accepted.case();
+    let ran = run(
+        rt,
+        alloc,
+        case,
+        store,
+        places,
+        syncs.as_slice(),
+        longest,
+        settings.pace,
+    );
+    drop(syncs);
+    match ran {
+        Ok(turns) => Ok(turns),
+        Err(stopped) => Err(fault_of(alloc, accepted, places, stopped)),
+    }
+}
+
+/// Each cell that the trace names is read and written back.
+fn fill_all<S: Store>(
+    alloc: Global,
+    accepted: &Accepted,
+    store: &S,
+    places: &Places,
+) -> Result<(), RunError> {
+    let spots = spots(alloc, &accepted.trace, places)?;
+    let mut room = Room::of(alloc, places, 1)?;
+    match fill(store, spots.as_slice(), &mut room) {
+        Ok(()) => Ok(()),
+        Err(fault) => Err(fault_of(alloc, accepted, places, Stopped::File(fault.file))),
+    }
+}
+
+/// Why a run that was stopped tells nothing.
+fn fault_of(alloc: Global, accepted: &Accepted, places: &Places, stopped: Stopped) -> RunError {
+    match stopped {
+        Stopped::Memory => RunError::from(AllocError),
+        Stopped::Tick(m) => RunError::Tick(m),
+        Stopped::Line => RunError::Run,
+        Stopped::File(file) => match file_name(alloc, &accepted.layout, places, file) {
+            Ok(name) => RunError::File(name),
+            Err(error) => RunError::from(error),
+        },
+    }
+}
+
+/// Which files are synced at the end of each message.
+fn syncs_of(
+    alloc: Global,
+    trace: &Trace,
+    settings: &Settings<'_>,
+) -> Result<Vec<Syncs>, AllocError> {
+    let mut syncs = Vec::with_capacity(alloc, trace.len() as usize)?;
+    for m in 1..trace.len() + 1 {
+        let name = trace.message(m).name.as_str();
+        let is_named = settings.syncs.iter().any(|it| it.as_str() == name);
+        syncs.push(if is_named {
+            Syncs::All
+        } else if settings.sync_writes {
+            Syncs::Written
+        } else {
+            Syncs::None
+        })?;
+    }
+    Ok(syncs)
+}
+
+/// How long the plan of the measured trace for so many workers is, in ticks.
+pub fn planned_length<R: Threads + Sync>(
+    rt: &R,
+    alloc: Global,
+    hierarchy: &[u8],
+    measured: &[u8],
+    workers: u32,
+) -> Result<u64, RunError>
+    requires workers { IsWorkers workers }
+{
+    let accepted = accept_measured(rt, alloc, hierarchy, measured)?;
+    let made = list_plan_of(alloc, accepted.case(), Rule::Arrival, workers)?;
+    let length = made.plan().length();
+    drop(made);
+    drop(accepted);
+    Ok(length)
+}

@@ -1,0 +1,178 @@
+//! Runs on a store in memory.
+
+ghost use Rattle.std.specs.Prelude.{◌≡◌};
+ghost use Rattle.waff_plan.specs.Bound.{IsWorkers};
+
+use crate::fault::RunError;
+use crate::places::{Places, Spot};
+use crate::running::{Settings, run_on};
+use crate::store::{Store, StoreFault};
+use crate::workers::Pace;
+use std::alloc::Global;
+use std::marker::Sync;
+use std::rt::Clock;
+use std::sync::{Mutex, Wait};
+use std::test::Fail;
+use std::thread::Threads;
+use waff_inputs::accept;
+use waff_model::Cell;
+use waff_record::Recorded;
+
+/// Files of 64 bytes each, without a lock that waits: a file that somebody else holds is a fault, since the tree
+/// lets nobody run beside who writes it.
+#[derive(Drop)]
+struct Memory {
+    files: Vec<Mutex<Vec<u8>>>,
+}
+
+impl Memory {
+    fn of(alloc: Global, files: usize) -> Result<Memory, Fail> {
+        let mut list = Vec::new(alloc);
+        for _ in 0..files {
+            list.push(Mutex::new(vec![in alloc; 0u8; 64]?))?;
+        }
+        Ok(Memory { files: list })
+    }
+
+    fn byte<R: Wait>(&self, rt: &R, file: usize, at: usize) -> Option<u8> {
+        let guard = self.files.get(file)?.lock(rt);
+        guard.get(at).copied()
+    }
+}
+
+impl Store for Memory {
+    fn read(&self, file: usize, at: u64, bytes: &mut [u8]) -> Result<(), StoreFault> {
+        let fault = StoreFault { file };
+        let Some(guard) = self.files.get(file).ok_or(fault)?.try_lock() else {
+            return Err(fault);
+        };
+        for place in 0..bytes.len() {
+            bytes[place] = *guard.get(place.saturating_add(at as usize)).ok_or(fault)?;
+        }
+        Ok(())
+    }
+
+    fn write(&self, file: usize, at: u64, bytes: &[u8]) -> Result<(), StoreFault> {
+        let fault = StoreFault { file };
+        let Some(mut guard) = self.files.get(file).ok_or(fault)?.try_lock() else {
+            return Err(fault);
+        };
+        for place in 0..bytes.len() {
+            *guard
+                .get_mut(place.saturating_add(at as usize))
+                .ok_or(fault)? = bytes[place];
+        }
+        Ok(())
+    }
+
+    fn sync(&self, _file: usize) -> Result<(), StoreFault> {
+        Ok(())
+    }
+}
+
+const HIERARCHY: &str = "\
+model = \"hierarchical\"
+affinity = [{ name = \"A\" }, { name = \"B\", parent = \"A\" }, { name = \"C\", parent = \"A\" }]
+space = [{ name = \"s\", size = 16 }]
+map = [{ space = \"s\", unit = 2, to = [\"B\", \"C\"] }]
+";
+
+const TRACE: &str = "\
+message,cost,release,client,think,ops
+one,1,0,x,0,set s:0-1 7;set s:2 259
+two,1,0,x,0,add s:2 18446744073709551615
+three,1,0,x,0,copy s:4 s:2
+four,1,0,x,0,swap s:4 s:0;read s:0-3
+";
+
+fn settings<'a>(workers: u32) -> Settings<'a>
+    ensures { result.pace.workers ≡ workers }
+{
+    Settings {
+        pace: Pace {
+            workers,
+            tick: 1000,
+            loud: false,
+        },
+        fill: true,
+        sync_writes: true,
+        syncs: &[],
+    }
+}
+
+fn ran<R: Threads + Wait + Clock + Eprint + Sync>(
+    rt: &R,
+    alloc: Global,
+    store: &Memory,
+    trace: &str,
+    workers: u32,
+) -> Result<Recorded, RunError>
+    requires { IsWorkers workers }
+{
+    let hierarchy = HIERARCHY.as_bytes();
+    let accepted = accept(alloc, hierarchy, trace.as_bytes())?;
+    let places = Places::of(alloc, &accepted.layout, 8)?;
+    let settings = settings(workers);
+    run_on(
+        rt,
+        alloc,
+        &accepted,
+        hierarchy,
+        trace.as_bytes(),
+        store,
+        &places,
+        &settings,
+    )
+}
+
+#[test]
+fn finds_cells(rt: HostRuntime) -> Result<(), Fail> {
+    let alloc = rt.alloc();
+    let hierarchy = HIERARCHY.as_bytes();
+    let Ok(accepted) = accept(alloc, hierarchy, TRACE.as_bytes()) else {
+        return Err(Fail::new("refused"));
+    };
+    let places = Places::of(alloc, &accepted.layout, 8)?;
+    for (index, file, at) in [
+        (0, 0, 0),
+        (1, 0, 8),
+        (2, 1, 0),
+        (3, 1, 8),
+        (4, 0, 16),
+        (15, 1, 56),
+    ] {
+        let spot = places.spot(Cell { space: 0, index });
+        assert!(rt; spot == Spot { file, at });
+    }
+    Ok(())
+}
+
+#[test]
+fn leaves_what_the_operations_say(rt: HostRuntime) -> Result<(), Fail> {
+    let store = Memory::of(rt.alloc(), 2)?;
+    let ran = ran(&rt, rt.alloc(), &store, TRACE, 4);
+    assert!(rt; ran.is_ok());
+    // 259 less one is 258; it is copied to s:4 and changes places with the 7 of s:0.
+    for (file, at, byte) in [
+        (0, 0, 2),
+        (0, 1, 1),
+        (0, 8, 7),
+        (0, 16, 7),
+        (1, 0, 2),
+        (1, 1, 1),
+        (1, 8, 0),
+    ] {
+        assert_eq!(rt; store.byte(&rt, file, at), Some(byte));
+    }
+    Ok(())
+}
+
+#[test]
+fn tells_a_fault_of_the_store(rt: HostRuntime) -> Result<(), Fail> {
+    let store = Memory::of(rt.alloc(), 1)?;
+    match ran(&rt, rt.alloc(), &store, TRACE, 2) {
+        Err(RunError::File(name)) => assert_eq!(rt; name.as_str(), "s.1"),
+        _ => return Err(Fail::new("no fault")),
+    }
+    Ok(())
+}

@@ -1,0 +1,406 @@
+//! The workers of a run: threads over one lock, round the line.
+
+use crate::perform::{Room, Syncs, perform};
+use crate::places::Places;
+use crate::store::Store;
+use std::alloc::{AllocError, Global};
+use std::hint::spin_loop;
+use std::marker::Sync;
+use std::rt::Clock;
+use std::sync::atomic::{AtomicU64, Ordering};
+use std::sync::{Condvar, CondvarTimeouts, Mutex, MutexGuard, Wait};
+use std::thread;
+use std::thread::Threads;
+use std::time::{Duration, Instant};
+use waff_assign::Case;
+use waff_line::{Ended, Line, Turn};
+use waff_plan::NEVER;
+
+/// How often a worker looks before it sleeps.
+const LOOKS: u32 = 1_000;
+
+/// A sleep ends some 50 microseconds late: for so many nanoseconds before a deadline a worker looks at the
+/// clock in place of sleeping.
+const EARLY: u64 = 70_000;
+
+/// Between two tellings of progress lie so many nanoseconds at least.
+const TELLING: u64 = 500_000_000;
+
+/// How a run is run.
+#[derive(Clone, Copy)]
+pub struct Pace {
+    /// How many workers there are.
+    pub workers: u32,
+    /// Nanoseconds of a tick.
+    pub tick: u64,
+    /// Whether progress is told.
+    pub loud: bool,
+}
+
+/// Why a run ended before its end.
+#[derive(Clone, Copy, Debug, PartialEq)]
+pub enum Stopped {
+    Memory,
+    /// This message ran for too many ticks.
+    Tick(u32),
+    /// In this file something could not be done.
+    File(usize),
+    /// The line would have gone on out of turn.
+    Line,
+}
+
+/// What is behind the lock.
+#[derive(Drop)]
+struct Locked<'a> {
+    line: Line<'a>,
+    stopped: Option<Stopped>,
+    /// The time of the line until which a worker sleeps, `NEVER` where none has a deadline.
+    keeper: u64,
+    /// How many workers sleep.
+    asleep: u32,
+    /// When progress was told, in nanoseconds.
+    told: u64,
+}
+
+/// What all workers share.
+#[derive(Drop)]
+struct Shared<'r, 'a, S> {
+    case: Case<'a>,
+    store: &'r S,
+    places: &'r Places,
+    syncs: &'r [Syncs],
+    locked: &'r Mutex<Locked<'a>>,
+    changed: &'r Condvar,
+    /// Changes whenever a message ends.
+    moves: &'r AtomicU64,
+    begin: Instant,
+    pace: Pace,
+}
+
+/// Runs the messages of a case on a store, by threads. `syncs` says for each message which files are synced at
+/// its end.
+pub fn run<R: Threads + Wait + Clock + Eprint + Sync, S: Store + Sync>(
+    rt: &R,
+    alloc: Global,
+    case: Case<'_>,
+    store: &S,
+    places: &Places,
+    syncs: &[Syncs],
+    longest: usize,
+    pace: Pace,
+) -> Result<Vec<Turn>, Stopped> {
+    let line = Line::of(alloc, case, pace.workers).map_err(|_| Stopped::Memory)?;
+    let rooms = rooms(alloc, places, longest, pace.workers).map_err(|_| Stopped::Memory)?;
+    let begin = Instant::now(rt).map_err(|_| Stopped::Memory)?;
+    let locked = Mutex::new(Locked {
+        line,
+        stopped: None,
+        keeper: NEVER,
+        asleep: 0,
+        told: 0,
+    });
+    let changed = Condvar::new();
+    let moves = AtomicU64::new(0);
+    let shared = Shared {
+        case,
+        store,
+        places,
+        syncs,
+        locked: &locked,
+        changed: &changed,
+        moves: &moves,
+        begin,
+        pace,
+    };
+    let shared = &shared;
+    let worked = thread::map_indices(
+        rt,
+        alloc,
+        pace.workers as usize,
+        &|at: usize| { work(rt, shared, &rooms, at) },
+    );
+    if worked.is_err() {
+        return Err(Stopped::Memory);
+    }
+    ended(alloc, &locked.into_inner())
+}
+
+/// The room of each worker.
+fn rooms(
+    alloc: Global,
+    places: &Places,
+    longest: usize,
+    workers: u32,
+) -> Result<Vec<Mutex<Room>>, AllocError> {
+    let mut rooms = Vec::with_capacity(alloc, workers as usize)?;
+    for _ in 0..workers {
+        rooms.push(Mutex::new(Room::of(alloc, places, longest)?))?;
+    }
+    Ok(rooms)
+}
+
+/// What happened, where the run came to its end.
+fn ended(alloc: Global, locked: &Locked<'_>) -> Result<Vec<Turn>, Stopped> {
+    if let Some(stopped) = locked.stopped {
+        return Err(stopped);
+    }
+    match Vec::from_slice(alloc, locked.line.turns()) {
+        Ok(turns) => Ok(turns),
+        Err(_) => Err(Stopped::Memory),
+    }
+}
+
+/// Runs messages on this worker until none is left.
+fn work<R: Wait + Clock + Eprint, S: Store>(
+    rt: &R,
+    shared: &Shared<'_, '_, S>,
+    rooms: &[Mutex<Room>],
+    at: usize,
+) {
+    let Some(room) = rooms.get(at) else {
+        return;
+    };
+    let mut room = room.lock(rt);
+    let worker = (at as u64).saturating_add(1).min(64) as u32;
+    let mut last = None;
+    for _ in rt.forever() {
+        let Some(m) = take(rt, shared, worker, last) else {
+            return;
+        };
+        if let Err(stopped) = perform_message(shared, m, &mut *room) {
+            stop(rt, shared, stopped);
+            return;
+        }
+        last = Some(m);
+    }
+}
+
+/// Does the operations of a message.
+fn perform_message<S: Store>(
+    shared: &Shared<'_, '_, S>,
+    m: u32,
+    room: &mut Room,
+) -> Result<(), Stopped> {
+    if m == 0 || m > shared.case.trace.len() {
+        return Ok(());
+    }
+    let syncs = match shared.syncs.get(m as usize - 1) {
+        Some(syncs) => *syncs,
+        None => Syncs::None,
+    };
+    let ops = &shared.case.trace.message(m).ops;
+    match perform(shared.store, shared.places, ops, syncs, room) {
+        Ok(()) => Ok(()),
+        Err(fault) => Err(Stopped::File(fault.file)),
+    }
+}
+
+/// The run ends: the other workers stop when they have done what is at hand.
+fn stop<R: Wait, S>(rt: &R, shared: &Shared<'_, '_, S>, stopped: Stopped) {
+    let mut guard = look(rt, shared.locked);
+    if guard.stopped.is_none() {
+        guard.stopped = Some(stopped);
+    }
+    shared.changed.notify_all();
+}
+
+/// Takes the lock; looks many times before it sleeps.
+fn look<'a, R: Wait, T>(rt: &R, locked: &'a Mutex<T>) -> MutexGuard<'a, T> {
+    for _ in 0..LOOKS {
+        if let Some(guard) = locked.try_lock() {
+            return guard;
+        }
+        spin_loop();
+    }
+    locked.lock(rt)
+}
+
+/// Nanoseconds from the beginning of the run.
+fn nanos<R: Clock>(rt: &R, begin: &Instant) -> u64 {
+    match begin.elapsed(rt) {
+        Ok(since) => u64::try_from(since.as_nanos()).unwrap_or(0),
+        Err(_) => 0,
+    }
+}
+
+/// Ends the message at hand, where there is one, and takes the next one that may begin; none where the run is
+/// over. The clock is read under the lock, so that messages join in the order of their issues.
+fn take<R: Wait + Clock + Eprint, S>(
+    rt: &R,
+    shared: &Shared<'_, '_, S>,
+    worker: u32,
+    ended: Option<u32>,
+) -> Option<u32> {
+    let mut guard = look(rt, shared.locked);
+    if let Some(m) = ended {
+        let now = nanos(rt, &shared.begin);
+        guard.end(m, now / shared.pace.tick.max(1));
+        shared.moves.fetch_add(1, Ordering::SeqCst);
+        if guard.is_telling(shared.pace.loud, now) {
+            let done = guard.line.ended();
+            let unlocked = MutexGuard::unlock(guard);
+            let count = shared.case.trace.len();
+            let _ = rt.eprint(format_args!("\rwaff: {done} of {count} messages"));
+            guard = look(rt, unlocked);
+        }
+    }
+    let mut looked = false;
+    for _ in rt.forever() {
+        if guard.is_over() {
+            shared.changed.notify_all();
+            return None;
+        }
+        let now = nanos(rt, &shared.begin);
+        guard.arrive(now / shared.pace.tick.max(1));
+        if let Some(m) = guard.begin(worker) {
+            wake(shared, &guard);
+            return Some(m);
+        }
+        if guard.stopped.is_some() {
+            continue;
+        }
+        if guard.is_soon(shared.pace.tick, now) {
+            guard = await_issue(rt, guard);
+        } else if looked {
+            guard = sleep(rt, shared, guard);
+        } else {
+            let seen = shared.moves.load(Ordering::SeqCst);
+            let unlocked = MutexGuard::unlock(guard);
+            looked = !moves_soon(shared, seen);
+            guard = look(rt, unlocked);
+        }
+    }
+    unreachable!()
+}
+
+/// Keeps the deadline of the next issue, which is near, without sleeping.
+fn await_issue<'b, 'a, R: Wait>(
+    rt: &R,
+    guard: MutexGuard<'b, Locked<'a>>,
+) -> MutexGuard<'b, Locked<'a>> {
+    let mut guard = guard;
+    let due = guard.line.next();
+    guard.keeper = due;
+    let unlocked = MutexGuard::unlock(guard);
+    spin_loop();
+    let mut guard = look(rt, unlocked);
+    guard.leave(due);
+    guard
+}
+
+/// Whether a message ends while this worker looks.
+fn moves_soon<S>(shared: &Shared<'_, '_, S>, seen: u64) -> bool {
+    for _ in 0..LOOKS {
+        if shared.moves.load(Ordering::SeqCst) != seen {
+            return true;
+        }
+        spin_loop();
+    }
+    false
+}
+
+/// Wakes all workers where none is needed any more, and one more where there is more to do, or where nobody
+/// waits for the next issue.
+fn wake<S>(shared: &Shared<'_, '_, S>, locked: &Locked<'_>) {
+    if locked.line.waiting() == 0 {
+        shared.changed.notify_all();
+    } else if locked.asleep > 0 && (locked.line.is_ready() || locked.line.next() < locked.keeper) {
+        shared.changed.notify_one();
+    }
+}
+
+/// Sleeps until something changes. One worker alone keeps the deadline of the next issue.
+fn sleep<'b, 'a, R: Wait + Clock, S>(
+    rt: &R,
+    shared: &Shared<'_, '_, S>,
+    guard: MutexGuard<'b, Locked<'a>>,
+) -> MutexGuard<'b, Locked<'a>> {
+    let mut guard = guard;
+    guard.asleep = guard.asleep.saturating_add(1);
+    let due = guard.line.next();
+    if due < guard.keeper {
+        guard.keeper = due;
+        let left = due
+            .saturating_mul(shared.pace.tick)
+            .saturating_sub(nanos(rt, &shared.begin));
+        let rest = Duration::from_nanos(left.saturating_sub(EARLY));
+        guard = shared.changed.wait_timeout(rt, guard, rest).0;
+        guard.leave(due);
+    } else {
+        guard = shared.changed.wait(rt, guard);
+    }
+    guard.asleep = guard.asleep.saturating_sub(1);
+    guard
+}
+
+impl Locked<'_> {
+    /// Whether no message is left to begin, or the run was stopped.
+    fn is_over(&self) -> bool {
+        self.line.waiting() == 0 || self.stopped.is_some()
+    }
+
+    /// Whether the next issue is so near that nobody should sleep until then, and no other worker keeps its
+    /// deadline. The time is in nanoseconds, as is the tick.
+    fn is_soon(&self, tick: u64, now: u64) -> bool {
+        let due = self.line.next();
+        due < self.keeper && due.saturating_mul(tick) <= now.saturating_add(EARLY)
+    }
+
+    /// The worker that kept this deadline keeps it no more.
+    fn leave(&mut self, due: u64) {
+        if self.keeper == due {
+            self.keeper = NEVER;
+        }
+    }
+
+    /// Whether progress is told now, in nanoseconds.
+    fn is_telling(&mut self, loud: bool, now: u64) -> bool {
+        if !loud || now < self.told.saturating_add(TELLING) {
+            return false;
+        }
+        self.told = now;
+        true
+    }
+
+    /// The first message that is ready begins on this worker.
+    fn begin(&mut self, worker: u32) -> Option<u32> {
+        match self.line.begin(worker) {
+            Ok(begun) => begun,
+            Err(_) => {
+                self.stop(Stopped::Line);
+                None
+            }
+        }
+    }
+
+    /// Message `m` ends at this time.
+    fn end(&mut self, m: u32, now: u64) {
+        match self.line.end(m, now) {
+            Ok(Ended::Well) => {}
+            Ok(Ended::TooLong) => self.stop(Stopped::Tick(m)),
+            Ok(Ended::NotRunning) => self.stop(Stopped::Line),
+            Err(_) => self.stop(Stopped::Memory),
+        }
+    }
+
+    /// All that are issued by this time join.
+    fn arrive(&mut self, now: u64) {
+        self.line.tell(now);
+        for _ in 0..u64::MAX {
+            match self.line.join() {
+                Ok(true) => {}
+                Ok(false) => return,
+                Err(_) => {
+                    self.stop(Stopped::Memory);
+                    return;
+                }
+            }
+        }
+    }
+
+    fn stop(&mut self, stopped: Stopped) {
+        if self.stopped.is_none() {
+            self.stopped = Some(stopped);
+        }
+    }
+}
