@@ -13,6 +13,7 @@ mod PercentileLemmas
 pub mod FigureLaws
 pub mod LeastLaws
 mod PlanLemmas
+mod SweepLemmas
 mod NameLaws
 pub mod PartLemmas
 pub mod Falling

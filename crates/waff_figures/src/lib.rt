@@ -3,7 +3,7 @@
 //!
 //! - `percentile`: percentiles.
 //! - `figures`: what is told of one plan; `fields`: how it is printed; `sweep`: of the list plans
-//!   for some numbers of workers; `rate`: of any plan.
+//!   for some numbers of workers, made side by side by `slots`; `rate`: of any plan.
 //! - `tally`, over `grouped`: what is told of the messages of each group; `below`: costs summed up
 //!   the tree; `names`: the distinct names or clients.
 //! - `parts`, over `members`: figures of the messages of each group.
@@ -28,6 +28,7 @@ pub mod part_laws;
 mod parts;
 pub mod percentile;
 mod rate;
+mod slots;
 mod sweep;
 mod tally;
 mod wait_groups;
@@ -45,6 +46,7 @@ pub use figures::{Figures, figures_of};
 pub use grouping::{Columns, Grouping, Label};
 pub use parts::PartFigures;
 pub use rate::push_rate;
+pub use slots::{all_made, sides};
 pub use sweep::{SWEEP_WORKERS, figures_text, list_figures, list_figures_for, sweep_workers};
 pub use tally::Tally;
 pub use wait_groups::groups;

@@ -1,6 +1,7 @@
 //! The sweep over numbers of workers.
 
-ghost use Rattle.std.specs.Prelude.{◌≡◌, All, IfOk, IfSome, OnOk, Some, map, string_bytes};
+ghost use Rattle.std.specs.Prelude.{◌≡◌, ◌<◌, All, IfOk, IfSome, OnOk, Some, length, map};
+ghost use Rattle.std.specs.Prelude.{slice_index, string_bytes};
 ghost use Rattle.waff_assign.specs.Case.{instance_of};
 ghost use Rattle.waff_plan.specs.Bound.{IsWorkers};
 ghost use Rattle.waff_plan.specs.Obeys.{IsLeast};
@@ -14,7 +15,10 @@ ghost use Rattle.waff_figures.specs.Sweep.{sweep_header, sweep_lines, sweep_row,
 
 use crate::fields::{BusyField, QUALITY, QualityFields};
 use crate::figures::{Figures, figures_of, least_is_lower_bound};
+use crate::slots::{all_made, sides};
 use std::alloc::{AllocError, Global};
+use std::thread;
+use std::thread::Threads;
 use waff_assign::Case;
 use waff_list::laws::needs_make_the_same_plans;
 use waff_list::{Rule, WorkerPlan, list_plan_by, list_plan_of};
@@ -36,8 +40,9 @@ pub fn sweep_workers() -> &'static [u32]
 
 /// The figures of the list plans by this rule for these numbers of workers, in their order, where
 /// this is the unlimited plan. Without clients all these plans are in the order of the trace and have
-/// the same needs.
-pub fn list_figures(
+/// the same needs. The plans are made side by side.
+pub fn list_figures<R: Threads + Sync>(
+    rt: &R,
     alloc: Global,
     unlimited: &Planned<'_>,
     rule: Rule,
@@ -51,14 +56,15 @@ pub fn list_figures(
         workers.now listed.items) }
 {
     if unlimited.plan.version().has_clients() {
-        return figures_by(alloc, unlimited, None, rule, workers);
+        return figures_by(rt, alloc, unlimited, None, rule, workers);
     }
     let needs = needs(alloc, unlimited.case.tree, unlimited.case.assigned)?;
-    figures_by(alloc, unlimited, Some(&needs), rule, workers)
+    figures_by(rt, alloc, unlimited, Some(&needs), rule, workers)
 }
 
 /// The same figures, with the needs where they are known.
-fn figures_by(
+fn figures_by<R: Threads + Sync>(
+    rt: &R,
     alloc: Global,
     unlimited: &Planned<'_>,
     needs: Option<&Needs>,
@@ -73,12 +79,21 @@ fn figures_by(
         (length_of (planned_work unlimited.now) (planned_starts unlimited.now))
         workers.now listed.items) }
 {
-    let mut listed = Vec::with_capacity(alloc, workers.len())?;
-    for k in workers {
-        let figures = figures_for(alloc, unlimited, needs, rule, *k)?;
-        listed.push_reserved(figures);
-    }
-    Ok(listed)
+    let mut made = vec![in alloc; None; workers.len()]?;
+    let one = move |place: usize, made: &mut Option<Figures>|
+        requires place { place < length workers.now }
+        requires needs { IfSome needs (λ needs. AreNeedsOf unlimited.now.case needs.now) }
+        requires least { IsLeast (planned_order unlimited.now) (planned_work unlimited.now)
+            (planned_starts unlimited.now) }
+        requires workers { All IsWorkers workers.now }
+        ensures workers { IfSome made.new (λ figures.
+            figures.workers ≡ Some (slice_index workers.entry.now place)) }
+        ensures listed { IfSome made.new (IsListed rule (instance_of unlimited.entry.now.case)
+            (length_of (planned_work unlimited.entry.now) (planned_starts unlimited.entry.now))) }
+    { *made = figures_for(alloc, unlimited, needs, rule, workers[place]).ok() };
+    let threads = sides(rt, unlimited.plan.len());
+    thread::for_each_mut(rt, made.as_mut_slice(), threads, &one);
+    all_made(alloc, made.as_slice())
 }
 
 /// The figures of the list plan by this rule for k workers, where this is the unlimited plan.

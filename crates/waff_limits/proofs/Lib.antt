@@ -11,3 +11,5 @@ pub mod WhyOrder
 pub mod LiftRows
 pub mod WhyFields
 pub mod LimitLaws
+pub mod RunLemmas
+pub mod JumpLemmas

@@ -29,10 +29,10 @@ has_same messages n message cells cell is lists =
     (λ there. list_any-from_Contains cell_eq_equiv cell cells (each.1 (Contains-from_any cell_eq_same cell (cells_of message.ops) there)))
 
 -- one message more
-pub ticks_more : (messages : List Message) (n : ℕ) (message : Message) (cells : List Cell) → IsAmongFirst (length messages) n
-    → slice_get messages (n - 1) ≡ Some message → ListsFootprint messages n cells → (cell : Cell)
-    → ticks_on (take n messages) cell ≡ used_among cells (ticks_on (take (n - 1) messages)) message.cost cell
-ticks_more messages n message cells number is lists cell =
+pub ticks_with : (messages : List Message) (n : ℕ) (message : Message) → IsAmongFirst (length messages) n
+    → slice_get messages (n - 1) ≡ Some message → (cell : Cell)
+    → ticks_on (take n messages) cell ≡ used_among (cells_of message.ops) (ticks_on (take (n - 1) messages)) message.cost cell
+ticks_with messages n message number is cell =
     let back : n ≡ n - 1 + 1 = omega (arith, number.from) in
     let there : n - 1 < length messages = omega (arith, number.from, number.to) in
     let last : get_or messages (n - 1) message ≡ message = get_or_from_slice_get messages (n - 1) message message is in
@@ -40,9 +40,15 @@ ticks_more messages n message cells number is lists cell =
     = ap (λ k. take k messages) back ∙ take_more messages (n - 1) message there ∙ ap (λ m. take (n - 1) messages ++ m ∷ []) last in
     let sum = ap (λ ms. ticks_on ms cell) more ∙ sum_by-append (cost_on cell) (take (n - 1) messages) (message ∷ []) in
     let one = sum_by-cons (cost_on cell) message [] in
-    let cost : cost_on cell message ≡ cond (list_any (is_cell cell) cells) message.cost 0
-    = ap (λ b. cond b message.cost 0) (sym (has_same messages n message cells cell is lists)) in
-    omega (arith, sum, one, cost)
+    omega (arith, sum, one)
+
+-- and by its footprint
+pub ticks_more : (messages : List Message) (n : ℕ) (message : Message) (cells : List Cell) → IsAmongFirst (length messages) n
+    → slice_get messages (n - 1) ≡ Some message → ListsFootprint messages n cells → (cell : Cell)
+    → ticks_on (take n messages) cell ≡ used_among cells (ticks_on (take (n - 1) messages)) message.cost cell
+ticks_more messages n message cells number is lists cell =
+    ticks_with messages n message number is cell
+    ∙ ap (λ b. ticks_on (take (n - 1) messages) cell + cond b message.cost 0) (sym (has_same messages n message cells cell is lists))
 
 -- the ticks of a cell are not many
 costs_small : (f : Message → ℕ) (messages : List Message) → ((message : Message) → f message ≤ message.cost) → All (λ (m : Message). m.cost ≤ MAX_COST) messages

@@ -1,13 +1,10 @@
 -- Rows of lifted messages: sorted by their costs, those of as much cost left in their order, they are one list and leave none out.
-use Rattle.std.proofs.Common.{◌≡◌, ℕ, ◌+◌, ◌<◌, ◌≤◌, inl, inr, cond, Bool, List, [], ◌∷◌, ◌++◌, Contains, length, get_or, filter, sum_by, arith, refl, sym, ◌∙◌, ap, subst}
-use Rattle.std.specs.Cmp.{IsEquivalence, IsStrictWeakOrder, nat_cmp_total}
+use Rattle.std.proofs.Common.{◌≡◌, ℕ, ◌+◌, ◌<◌, inl, inr, cond, Bool, List, [], ◌∷◌, ◌++◌, Contains, length, get_or, filter, sum_by, arith, refl, sym, ◌∙◌, ap, subst}
+use Rattle.std.specs.Cmp.{IsEquivalence}
 use Rattle.std.specs.List.{AllPairs}
-use Rattle.std.specs.List.Sorted.{IsPermutation, IsSortedBy, IsStableBy, ties}
-use Rattle.std.specs.Ordering.{is_lt, nat_cmp}
-use Rattle.std.proofs.lemmas.Bool.{cases_lt}
+use Rattle.std.specs.List.Sorted.{IsPermutation, IsSortedBy, IsStableBy}
 use Rattle.std.proofs.lemmas.List.{get_or-map, length-map, length_push}
-use Rattle.std.proofs.lemmas.List.Kept.{AllPairs-filter}
-use Rattle.std.proofs.lemmas.List.Sorted.{Contains-permutation, IsPermutation-sym, IsStrictWeakOrder-flip, ranks_by, sorted_far, sum_by-IsPermutation}
+use Rattle.std.proofs.lemmas.List.Sorted.{Contains-permutation, IsPermutation-sym, sum_by-IsPermutation}
 use Rattle.std.proofs.lemmas.List.Sums.{sum_by-cons, sum_by_push}
 use Rattle.waff_model.specs.Unique.{AtMostOne}
 use Rattle.waff_figures.specs.Groups.{firsts_by}

@@ -2,6 +2,8 @@ pub mod Data
 pub mod Edges
 pub mod Laws
 pub mod Limits
+pub mod Runs
+pub mod Jumps
 pub mod Lifted
 pub mod WhyRows
 pub mod WhyLines

@@ -10,9 +10,11 @@ ghost use Rattle.waff_limits.specs.Data.{IsMore, IsMostOf, used_among};
 ghost use Rattle.waff_limits.specs.Edges.{AreSmall, AreUsed, IsCellAt, IsMostAt};
 ghost use Rattle.waff_limits.specs.Edges.{begun_at, edges_of, ended_at};
 ghost use Rattle.waff_limits.specs.Edges as specs;
+ghost use Rattle.waff_limits.specs.Runs.{used_in_run};
 ghost use Rattle.waff_limits.specs.declared.edges.Edge.{Edge as EdgeOf};
 
 use crate::data::CellUse;
+use crate::runs::Run;
 use std::alloc::{AllocError, Global};
 use waff_model::Cell;
 
@@ -74,6 +76,33 @@ impl Edges {
             let cell = cells[at];
             self.add(cell, cost)?;
         }
+        Ok(())
+    }
+
+    /// Each cell of the run is used for so many ticks more.
+    pub(crate) fn add_run(&mut self, run: Run, cost: u32) -> Result<(), AllocError>
+        requires filled { run.first ≤ run.last }
+        ensures { OnOk result ((used : Cell → ℕ) → AreUsed (edges_of self.old) used
+            → AreUsed (edges_of self.new) (used_in_run run used cost)) }
+    {
+        let Run { space, first, last } = run;
+        let before = self.last;
+        self.keep(before)?;
+        let place = place_of(Cell {
+            space,
+            index: first,
+        });
+        self.keep(Edge {
+            place,
+            begins: cost,
+            ends: 0,
+        })?;
+        let place = place_of(Cell { space, index: last });
+        self.last = Edge {
+            place,
+            begins: 0,
+            ends: cost,
+        };
         Ok(())
     }
 

@@ -1,21 +1,23 @@
 //! What limits a workload: its workers, its clients, the data that its messages contend for, the tree of
 //! affinities, and the order in which messages are served; and why messages run high in the tree.
 //!
-//! - `data`, over `edges`: the cell that messages use longest; `limits`: all limits of a case; `text`: their text.
+//! - `data`, over `edges` and `runs` of cells: the cell that messages use longest; `limits`: all limits of a case; `text`: their text.
 //! - `laws`: what the data say of every tree of affinities.
-//! - `laid`: a trace under a hierarchy. `lifted`: messages that run above the owner of their first cell, told together in
-//!   `why_rows`; `why_text`: their text, `cell_text`: a cell in it.
+//! - `laid`: a trace under a hierarchy. `lifted`: messages that run above the owner of their first cell, by `jumps` up the tree, told
+//!   together in `why_rows`; `why_text`: their text. `cell_text`: a cell in a text.
 
 #![tactic(auto)]
 
 mod cell_text;
 pub mod data;
 mod edges;
+mod jumps;
 mod laid;
 pub mod laws;
 mod lifted;
 pub mod lifted_laws;
 mod limits;
+mod runs;
 mod text;
 mod why_rows;
 mod why_text;

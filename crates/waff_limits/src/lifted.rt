@@ -1,6 +1,6 @@
 //! Messages that run above the owner of their own first cell.
 
-ghost use Rattle.std.specs.Prelude.{◌≡◌, ◌≢◌, ◌<◌, ◌≤◌, ◌↔◌, ◌∷◌, ◌++◌, [], List, All, IfOk, IfSome};
+ghost use Rattle.std.specs.Prelude.{◌≡◌, ◌<◌, ◌≤◌, ◌↔◌, ◌∷◌, ◌++◌, [], List, All, IfOk, IfSome};
 ghost use Rattle.std.specs.Prelude.{IsTrue, MatchOption, Some, length, option_map};
 ghost use Rattle.waff_model.specs.Cells.{cells_of, cells_of_op};
 ghost use Rattle.waff_model.specs.Layout.{IsCell, owner_of};
@@ -9,13 +9,15 @@ ghost use Rattle.waff_model.specs.Tree.{AtOrAbove, parent_of};
 ghost use Rattle.waff_model.specs.declared.cell.Cell.{Cell as CellOf};
 ghost use Rattle.waff_model.specs.declared.limits.TheConstants.{MAX_MESSAGES};
 ghost use Rattle.waff_assign.specs.Lowest.{IsAssignment, IsInFootprint, IsLowest};
+ghost use Rattle.waff_limits.specs.Jumps.{AreJumps};
 ghost use Rattle.waff_limits.specs.Lifted.{AreLifting, AreLifts, IsFirst, IsFirstAmong, IsLift, IsLifted};
 ghost use Rattle.waff_limits.specs.Data.{ComesBefore};
 ghost use Rattle.waff_limits.specs.Lifted.{IsOutside, IsSooner, IsTold};
 
+use crate::jumps::{Jump, jumps, next_below};
 use crate::laid::Laid;
 use std::alloc::{AllocError, Global};
-use waff_model::{AffinityId, Cell, Layout, Op, Ops, Tree};
+use waff_model::{AffinityId, Cell, Layout, Op, Ops};
 
 /// A message that runs above the owner of its first cell.
 #[derive(Clone, Copy)]
@@ -39,9 +41,26 @@ pub(crate) fn lifts(alloc: Global, laid: &Laid<'_>) -> Result<Vec<Lift>, AllocEr
         (length laid.now.case.trace.now.messages)) lifts.items) }
     ensures few { IfOk result (λ lifts. length lifts.items ≤ MAX_MESSAGES) }
 {
+    let jumps = jumps(alloc, laid.layout.tree())?;
+    let lifts = lifts_by(alloc, laid, jumps.as_slice());
+    drop(jumps);
+    lifts
+}
+
+/// The same, by jumps up the tree.
+fn lifts_by(alloc: Global, laid: &Laid<'_>, jumps: &[Jump]) -> Result<Vec<Lift>, AllocError>
+    requires jumps { AreJumps laid.now.layout.now.tree jumps.now }
+    requires assignment { IsAssignment laid.now.layout.now laid.now.case.trace.now.messages
+        laid.now.case.assigned.now }
+    ensures lifts { IfOk result (λ lifts. AreLifts laid.now.layout.now
+        laid.now.case.trace.now.messages laid.now.case.assigned.now lifts.items) }
+    ensures told { IfOk result (λ lifts. All (IsTold laid.now.layout.now.spaces
+        (length laid.now.case.trace.now.messages)) lifts.items) }
+    ensures few { IfOk result (λ lifts. length lifts.items ≤ MAX_MESSAGES) }
+{
     let mut lifts = Vec::new(alloc);
     for n in 1..laid.case.trace.len() + 1 {
-        match lift_of(laid, n) {
+        match lift_of(laid, jumps, n) {
             Some(lift) => lifts.push(lift)?,
             None => {}
         }
@@ -50,7 +69,8 @@ pub(crate) fn lifts(alloc: Global, laid: &Laid<'_>) -> Result<Vec<Lift>, AllocEr
 }
 
 /// What is told of message `n`, if it is lifted.
-fn lift_of(laid: &Laid<'_>, n: u32) -> Option<Lift>
+fn lift_of(laid: &Laid<'_>, jumps: &[Jump], n: u32) -> Option<Lift>
+    requires jumps { AreJumps laid.now.layout.now.tree jumps.now }
     requires number { IsAmongFirst (length laid.now.case.trace.now.messages) n }
     requires assignment { IsAssignment laid.now.layout.now laid.now.case.trace.now.messages
         laid.now.case.assigned.now }
@@ -66,7 +86,7 @@ fn lift_of(laid: &Laid<'_>, n: u32) -> Option<Lift>
     if owner == affinity {
         return None;
     }
-    let below = next_below(laid.layout.tree(), affinity, owner);
+    let below = next_below(laid.layout.tree(), jumps, affinity, owner);
     let other = lifting_cell(laid.layout, &message.ops, affinity, cell, below);
     Some(Lift {
         message: n,
@@ -113,27 +133,6 @@ fn lifting_cell(
         Some(cell) => cell,
         None => unreachable!("the affinity below is not at or above the owners of all cells"),
     }
-}
-
-/// The affinity next below `above` on the way to one that is below it.
-fn next_below(tree: &Tree, above: AffinityId, affinity: AffinityId) -> AffinityId
-    requires known { affinity.0 < length tree.now }
-    requires above { AtOrAbove tree.now above.0 affinity.0 }
-    requires below { above.0 ≢ affinity.0 }
-    ensures next { parent_of tree.now result.0 ≡ Some above.0 }
-    ensures above { AtOrAbove tree.now result.0 affinity.0 }
-    ensures within { result.0 < length tree.now }
-{
-    // Its contract tells `IsTree`.
-    let _ = tree.len();
-    let mut at = affinity;
-    while let Some(parent) = tree.parent(at) {
-        if parent == above {
-            return at;
-        }
-        at = parent;
-    }
-    unreachable!("the way up from what is below leads there")
 }
 
 /// The first cell that the operations name with an owner that is not at or below the affinity; of all cells where there is none.

@@ -5,7 +5,6 @@ ghost use Rattle.std.specs.Prelude.{length, map, string_bytes};
 ghost use Rattle.waff_model.specs.Layout.{IsCell};
 ghost use Rattle.waff_model.specs.Messages.{sizes_of};
 ghost use Rattle.waff_model.specs.Numbers.{IsAmongFirst};
-ghost use Rattle.waff_read.specs.Spellings.{cell_spelled};
 ghost use Rattle.waff_assign.specs.Case.{instance_of};
 ghost use Rattle.waff_plan.specs.Bound.{IsWorkers};
 ghost use Rattle.waff_plan.specs.Laws.{share_of};
@@ -15,11 +14,12 @@ ghost use Rattle.waff_limits.specs.Limits.{AreLimits, affinity_field, bound_line
 ghost use Rattle.waff_limits.specs.Limits.{client_field, limit_row, limits_header, limits_lines};
 ghost use Rattle.waff_limits.specs.Limits.{planned_row, ticks_of, work_row};
 
+use crate::cell_text::push_cell;
 use crate::data::CellUse;
 use crate::limits::Limits;
 use std::alloc::{AllocError, Global};
 use waff_figures::Figures;
-use waff_model::{AffinityId, Cell, Layout, Trace, Tree};
+use waff_model::{AffinityId, Layout, Trace, Tree};
 use waff_plan::{Peak, Planned};
 use waff_plan_text::{Ratio, WorkerField};
 
@@ -107,7 +107,7 @@ fn push_bounds(
         client.ticks,
         client_name(case.trace, client),
     )?;
-    push_cell(text, alloc, layout, total, cell)?;
+    push_data(text, alloc, layout, total, cell)?;
     push_row(
         text,
         "tree",
@@ -146,7 +146,7 @@ fn affinity_name(tree: &Tree, peak: Peak) -> &str
 }
 
 /// Appends the line of the cell that is used longest.
-fn push_cell(
+fn push_data(
     text: &mut String,
     alloc: Global,
     layout: &Layout,
@@ -159,23 +159,14 @@ fn push_cell(
 {
     match cell {
         Some(CellUse { cell, ticks }) => {
-            let at = cell_name(alloc, layout, cell)?;
+            let mut at = String::new(alloc);
+            push_cell(&mut at, layout, cell)?;
             let pushed = push_row(text, "data", None, total, ticks, at.as_str());
             drop(at);
             pushed
         }
         None => push_row(text, "data", None, total, 0, "-"),
     }
-}
-
-/// The cell, as a trace spells it.
-fn cell_name(alloc: Global, layout: &Layout, cell: Cell) -> Result<String, AllocError>
-    requires known { IsCell layout.now.spaces cell }
-    ensures { IfOk result (λ name. string_bytes name ≡ cell_spelled layout.now.spaces cell) }
-{
-    let _spaces = layout.space_count();
-    let space = layout.space_name(cell.space);
-    format!(in alloc; "{space}:{}", cell.index)
 }
 
 /// Appends the lines of these plans.

@@ -19,11 +19,9 @@ use Rattle.waff_plan.specs.Laws.{LeastIsNoLonger}
 use Rattle.waff_plan.specs.Work.{Work}
 use Rattle.waff_plan.specs.declared.totals.Totals.{Totals}
 use Rattle.waff_plan_text.specs.Lines.{line_text}
-use Rattle.waff_inputs.specs.Known.{trace_of}
-use Rattle.waff_read.specs.Traces.{Tells}
 use Rattle.waff_read.specs.declared.trace_fault.TraceError.{TraceError}
 use Rattle.waff_read.specs.declared.trace_fault.TraceError.TheVariants as trace
-use Rattle.waff_tool.specs.Comparison.{AreCertifiedTotals, AreListTotals, AreModels, IsMeasured, RefusesComparison, plan_fields}
+use Rattle.waff_tool.specs.Comparison.{AreCertifiedTotals, AreListTotals, IsMeasured, plan_fields}
 use Rattle.waff_inputs.specs.ToolErrors.{trace_error}
 use Rattle.waff_inputs.specs.declared.fault.ToolError.TheVariants as tool
 use Rattle.waff_tool.specs.declared.measures.Measured.{Measured}
@@ -59,13 +57,6 @@ refined_is_no_longer classical hierarchical coarse fine trace k of_classical of_
     let coarse_least = in_order trace.version earlier classical.tree coarse work (start_of one.least.starts) one.least.certified.least in
     let shorter = no_longer (start_of other.least.starts) (start_of one.least.starts) fine_least coarse_least in
     rw (one.least.told, other.least.told) shorter
-
--- what a reader of traces refuses for a comparison, where the hierarchies are accepted
-pub trace_is_refused : (first second bytes : List ℕ) (classical hierarchical : Hierarchy) (fault : TraceError)
-    → AreModels first second classical hierarchical → Tells fault (trace_of classical.spaces bytes)
-    → RefusesComparison first second bytes (trace_error fault)
-trace_is_refused first second bytes classical hierarchical trace.Memory are told = inl tt
-trace_is_refused first second bytes classical hierarchical fault are told = (classical, hierarchical, are, told)
 
 -- it is no fault of a writer
 pub trace_is_read : (fault : TraceError) → trace_error fault ≡ tool.Write → ⊥

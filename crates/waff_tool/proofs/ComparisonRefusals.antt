@@ -1,176 +1,128 @@
 -- Of the same files one error tells why a comparison refuses them, and none where they are compared.
-use Rattle.std.proofs.Common.{◌≡◌, ℕ, ◌⊎◌, inl, inr, List, Option, Some, None, Result, Ok, Err, refl, sym, ◌∙◌, ap, subst}
+use Rattle.std.proofs.Common.{◌≡◌, ℕ, inl, inr, ◌==◌, Bool, true, false, cond, List, Result, Ok, Err, length, refl, sym, ◌∙◌, ap, arith, eq-eqb}
+use Rattle.std.proofs.lemmas.Bool.{and_parts}
+use Rattle.std.proofs.lemmas.Bool.Decides.{nat_tests}
+use Rattle.std.specs.List.{list_all, zip}
+use Rattle.waff_parse.specs.Refusals.{◌>>=◌, told}
+use Rattle.waff_model.proofs.SpaceLemmas.{same_pass, spaces_pass}
 use Rattle.waff_model.specs.Layout.{Hierarchy, SameSpaces}
+use Rattle.waff_model.specs.Messages.{Arrivals}
 use Rattle.waff_model.specs.Unique.{AtMostOne}
+use Rattle.waff_model.specs.declared.kind.Kind.{Kind}
+use Rattle.waff_model.specs.declared.kind.Kind.TheVariants as kind
 use Rattle.waff_read.specs.Hierarchies.{hierarchy_of}
-use Rattle.waff_inputs.specs.Known.{trace_of}
-use Rattle.waff_read.specs.declared.hier_error.HierError.{HierError}
-use Rattle.waff_inputs.specs.Inputs.{TellsOfFiles}
+use Rattle.waff_inputs.specs.Inputs.{IsRefusal, RefusesHierarchy, TellsOfFiles, layout_of, trace_over}
 use Rattle.waff_inputs.specs.declared.fault.ToolError.{ToolError}
 use Rattle.waff_inputs.specs.declared.fault.ToolError.TheVariants as tool
-use Rattle.waff_inputs.proofs.Refusals.{same_some}
-use Rattle.waff_inputs.proofs.SameInput.{same_ok}
-use Rattle.waff_tool.specs.Comparison.{AreHierarchies, AreModels, IsCompareText, RefusesComparison}
+use Rattle.waff_inputs.proofs.Refusals.{first_refuses, no_refusal, one_refusal, second_refuses}
+use Rattle.waff_tool.specs.Comparison.{AreModels, IsCompareText, RefusesComparison, as_models, by_kind, compared_files, have_same_spaces, models_in}
 use Rattle.waff_tool.specs.Unique.{ComparedIsNotRefused}
-use Rattle.waff_tool.proofs.TextUniqueness.{of_kinds, same_models}
 
--- the error of two hierarchies, the first one first
-abbrev of_hierarchies : Result Hierarchy HierError → Result Hierarchy HierError → Option ToolError
-of_hierarchies (Err fault) second = Some (tool.Hier 1 fault)
-of_hierarchies (Ok layout) (Err fault) = Some (tool.Hier 2 fault)
-of_hierarchies (Ok layout) (Ok other) = None
+-- what is read behind the first hierarchy, and behind both
+abbrev then_second : List ℕ → Hierarchy → Result (Hierarchy × Hierarchy) ToolError
+then_second second_file first = layout_of 2 second_file >>= as_models first
 
--- an error of two files that are hierarchies, or of the trace
-abbrev IsLater : List ℕ → List ℕ → List ℕ → ToolError → Type 0
-IsLater first second trace_file (tool.Trace fault) =
-    (classical : Hierarchy) × (hierarchical : Hierarchy) × AreModels first second classical hierarchical × (trace_of classical.spaces trace_file ≡ Err fault)
-IsLater first second trace_file tool.SpacesDiffer =
-    (layout : Hierarchy) × (other : Hierarchy) × AreHierarchies first second layout other × ¬ SameSpaces layout.spaces other.spaces
-IsLater first second trace_file tool.ModelsSame =
-    (layout : Hierarchy) × (other : Hierarchy) × AreHierarchies first second layout other
-    × SameSpaces layout.spaces other.spaces × (layout.kind ≡ other.kind)
-IsLater first second trace_file error = ⊥
+abbrev then_trace : List ℕ → Hierarchy × Hierarchy → Result ((Hierarchy × Hierarchy) × Arrivals) ToolError
+then_trace trace_file models = trace_over models.0 trace_file >>= λ trace. Ok (models, trace)
 
--- it is one of these
-abbrev IsEither : List ℕ → List ℕ → List ℕ → ToolError → Type 0
-IsEither first second trace_file error =
-    (of_hierarchies (hierarchy_of first) (hierarchy_of second) ≡ Some error) ⊎ IsLater first second trace_file error
+not_true : (b : Bool) → ¬ (b ≡ true) → b ≡ false
+not_true true none = absurd (none refl)
+not_true false none = refl
 
-either : (first second trace_file : List ℕ) (error : ToolError) → TellsOfFiles error → RefusesComparison first second trace_file error
-    → IsEither first second trace_file error
-either first second trace_file (tool.Hier file fault) tells refused = elim refused [
-  | inl one ↦ inl (ap (λ r. of_hierarchies r (hierarchy_of second)) one.1 ∙ ap (λ f. Some (tool.Hier f fault)) (sym one.0))
-  | inr (layout, read, two) ↦
-      inl (ap (λ r. of_hierarchies r (hierarchy_of second)) read ∙ ap (of_hierarchies (Ok layout)) two.1
-      ∙ ap (λ f. Some (tool.Hier f fault)) (sym two.0))
-]
-either first second trace_file (tool.Trace fault) tells refused = inr refused
-either first second trace_file (tool.PlanText fault) tells refused = elim refused [
-  | inl one ↦ absurd one
-  | inr (layout, read, two) ↦ absurd two
-]
-either first second trace_file tool.SpacesDiffer tells refused = inr refused
-either first second trace_file tool.ModelsSame tells refused = inr refused
-either first second trace_file tool.Write tells refused = absurd tells
-either first second trace_file tool.Memory tells refused = absurd tells
-either first second trace_file tool.TooManyCells tells refused = elim refused [
-  | inl one ↦ absurd one
-  | inr (layout, read, two) ↦ absurd two
-]
+they_are_same : (first second : Hierarchy) → SameSpaces first.spaces second.spaces → have_same_spaces first second ≡ true
+they_are_same first second same =
+    let pass = same_pass first.spaces second.spaces same in
+    rw (eq-eqb (length first.spaces) (length second.spaces) pass.0) pass.1
 
--- two hierarchies that are read have no error of their own
-both_read : (first second : List ℕ) (layout other : Hierarchy) → AreHierarchies first second layout other
-    → of_hierarchies (hierarchy_of first) (hierarchy_of second) ≡ None
-both_read first second layout other (one, two) = ap (λ r. of_hierarchies r (hierarchy_of second)) one ∙ ap (of_hierarchies (Ok layout)) two
+they_differ : (first second : Hierarchy) → ¬ SameSpaces first.spaces second.spaces → have_same_spaces first second ≡ false
+they_differ first second none = not_true (have_same_spaces first second) (λ yes.
+    let parts = and_parts (length first.spaces == length second.spaces) _ yes in
+    none (spaces_pass first.spaces second.spaces (grind (arith, nat_tests, parts.0)) parts.1))
 
-models_read : (first second : List ℕ) (classical hierarchical : Hierarchy) → AreModels first second classical hierarchical
-    → of_hierarchies (hierarchy_of first) (hierarchy_of second) ≡ None
-models_read first second classical hierarchical p = elim p.files [
-  | inl read ↦ both_read first second classical hierarchical read
-  | inr read ↦ both_read first second hierarchical classical read
-]
+-- two hierarchies as models, by their kinds
+models_by_kind : (first second : Hierarchy) → SameSpaces first.spaces second.spaces → as_models first second ≡ by_kind first.kind second.kind (first, second)
+models_by_kind first second same =
+    ap (λ b. cond b (by_kind first.kind second.kind (first, second)) (Err tool.SpacesDiffer)) (they_are_same first second same)
 
-later_read : (first second trace_file : List ℕ) (error : ToolError) → IsLater first second trace_file error
-    → of_hierarchies (hierarchy_of first) (hierarchy_of second) ≡ None
-later_read first second trace_file (tool.Trace fault) later = models_read first second later.0 later.1 later.2
-later_read first second trace_file tool.SpacesDiffer later = both_read first second later.0 later.1 later.2
-later_read first second trace_file tool.ModelsSame later = both_read first second later.0 later.1 later.2
-later_read first second trace_file error later = absurd later
+pub spaces_differ : (first second : Hierarchy) → ¬ SameSpaces first.spaces second.spaces → IsRefusal (as_models first second) tool.SpacesDiffer
+spaces_differ first second none =
+    inl (ap (λ b. cond b (by_kind first.kind second.kind (first, second)) (Err tool.SpacesDiffer)) (they_differ first second none))
 
-same_read : (first second : List ℕ) (layout other one two : Hierarchy) → AreHierarchies first second layout other
-    → AreHierarchies first second one two → (layout ≡ one) × (other ≡ two)
-same_read first second layout other one two p q =
-    (same_ok (hierarchy_of first) layout one p.0 q.0, same_ok (hierarchy_of second) other two p.1 q.1)
+same_kinds : (one other : Kind) (pair : Hierarchy × Hierarchy) → one ≡ other → by_kind one other pair ≡ Err tool.ModelsSame
+same_kinds kind.Classical kind.Classical pair same = refl
+same_kinds kind.Hierarchical kind.Hierarchical pair same = refl
+same_kinds kind.Classical kind.Hierarchical pair same = absurd (cc)
+same_kinds kind.Hierarchical kind.Classical pair same = absurd (cc)
 
-swapped_spaces : (layout other : Hierarchy) → SameSpaces layout.spaces other.spaces → SameSpaces other.spaces layout.spaces
-swapped_spaces layout other same = record { names = sym same.names; sizes = sym same.sizes }
+pub models_same : (first second : Hierarchy) → SameSpaces first.spaces second.spaces → first.kind ≡ second.kind
+    → IsRefusal (as_models first second) tool.ModelsSame
+models_same first second same kinds = inl (models_by_kind first second same ∙ same_kinds first.kind second.kind (first, second) kinds)
 
--- a classical and a hierarchical hierarchy of the same spaces have the same spaces, and are of different models
-models_same_spaces : (first second : List ℕ) (layout other classical hierarchical : Hierarchy) → AreHierarchies first second layout other
-    → AreModels first second classical hierarchical → SameSpaces layout.spaces other.spaces
-models_same_spaces first second layout other classical hierarchical read p = elim p.files [
-  | inl files ↦
-      let same = same_read first second layout other classical hierarchical read files in
-      subst (λ (l : Hierarchy). SameSpaces l.spaces other.spaces) (sym same.0)
-      (subst (λ (o : Hierarchy). SameSpaces classical.spaces o.spaces) (sym same.1) p.same_spaces)
-  | inr files ↦
-      let same = same_read first second layout other hierarchical classical read files in
-      subst (λ (l : Hierarchy). SameSpaces l.spaces other.spaces) (sym same.0)
-      (subst (λ (o : Hierarchy). SameSpaces hierarchical.spaces o.spaces) (sym same.1) (swapped_spaces classical hierarchical p.same_spaces))
-]
+-- two hierarchies are refused by the first, by the second, or as models
+pub first_is_refused : (first_file second_file : List ℕ) (error : ToolError) → RefusesHierarchy 1 first_file error
+    → IsRefusal (models_in first_file second_file) error
+first_is_refused first_file second_file = first_refuses (layout_of 1 first_file) (then_second second_file)
 
-models_differ : (first second : List ℕ) (layout other classical hierarchical : Hierarchy) → AreHierarchies first second layout other
-    → AreModels first second classical hierarchical → layout.kind ≡ other.kind → ⊥
-models_differ first second layout other classical hierarchical read p kinds = elim p.files [
-  | inl files ↦
-      let same = same_read first second layout other classical hierarchical read files in
-      of_kinds classical hierarchical p.is_classical p.is_hierarchical
-      (sym (ap (λ (l : Hierarchy). l.kind) same.0) ∙ kinds ∙ ap (λ (l : Hierarchy). l.kind) same.1)
-  | inr files ↦
-      let same = same_read first second layout other hierarchical classical read files in
-      of_kinds classical hierarchical p.is_classical p.is_hierarchical
-      (sym (ap (λ (l : Hierarchy). l.kind) same.1) ∙ sym kinds ∙ ap (λ (l : Hierarchy). l.kind) same.0)
+behind_first : (first_file second_file : List ℕ) (first : Hierarchy) (error : ToolError) → hierarchy_of first_file ≡ Ok first
+    → IsRefusal (then_second second_file first) error → IsRefusal (models_in first_file second_file) error
+behind_first first_file second_file first error is =
+    second_refuses (layout_of 1 first_file) (then_second second_file) first error (ap (told (tool.Hier 1)) is)
+
+pub second_is_refused : (first_file second_file : List ℕ) (first : Hierarchy) (error : ToolError) → hierarchy_of first_file ≡ Ok first
+    → RefusesHierarchy 2 second_file error → IsRefusal (models_in first_file second_file) error
+second_is_refused first_file second_file first error is refused =
+    behind_first first_file second_file first error is (first_refuses (layout_of 2 second_file) (as_models first) error refused)
+
+pub models_are_refused : (first_file second_file : List ℕ) (first second : Hierarchy) (error : ToolError) → hierarchy_of first_file ≡ Ok first
+    → hierarchy_of second_file ≡ Ok second → IsRefusal (as_models first second) error → IsRefusal (models_in first_file second_file) error
+models_are_refused first_file second_file first second error is also refused =
+    behind_first first_file second_file first error is
+    (second_refuses (layout_of 2 second_file) (as_models first) second error (ap (told (tool.Hier 2)) also) refused)
+
+-- files that are models are read as them
+both_read : (first_file second_file : List ℕ) (first second : Hierarchy) → hierarchy_of first_file ≡ Ok first → hierarchy_of second_file ≡ Ok second
+    → models_in first_file second_file ≡ as_models first second
+both_read first_file second_file first second is also =
+    ap (λ r. told (tool.Hier 1) r >>= then_second second_file) is ∙ ap (λ r. told (tool.Hier 2) r >>= as_models first) also
+
+kinds_read : (one other : Kind) (pair : Hierarchy × Hierarchy) → one ≡ kind.Classical → other ≡ kind.Hierarchical → by_kind one other pair ≡ Ok pair
+kinds_read one other pair is also = ap (λ k. by_kind k other pair) is ∙ ap (λ k. by_kind kind.Classical k pair) also
+
+kinds_turned : (one other : Kind) (pair : Hierarchy × Hierarchy) → one ≡ kind.Hierarchical → other ≡ kind.Classical
+    → by_kind one other pair ≡ Ok (pair.1, pair.0)
+kinds_turned one other pair is also = ap (λ k. by_kind k other pair) is ∙ ap (λ k. by_kind kind.Hierarchical k pair) also
+
+pub models_read : (first_file second_file : List ℕ) (classical hierarchical : Hierarchy) → AreModels first_file second_file classical hierarchical
+    → models_in first_file second_file ≡ Ok (classical, hierarchical)
+models_read first_file second_file classical hierarchical p = elim p.files [
+  | inl (one, two) ↦
+      both_read first_file second_file classical hierarchical one two ∙ models_by_kind classical hierarchical p.same_spaces
+      ∙ kinds_read classical.kind hierarchical.kind (classical, hierarchical) p.is_classical p.is_hierarchical
+  | inr (one, two) ↦
+      both_read first_file second_file hierarchical classical one two
+      ∙ models_by_kind hierarchical classical (record { names = sym p.same_spaces.names; sizes = sym p.same_spaces.sizes })
+      ∙ kinds_turned hierarchical.kind classical.kind (hierarchical, classical) p.is_hierarchical p.is_classical
 ]
 
--- of the later errors one holds
-later_is_one : (first second trace_file : List ℕ) (one other : ToolError) → IsLater first second trace_file one → IsLater first second trace_file other
-    → one ≡ other
-later_is_one first second trace_file tool.SpacesDiffer tool.SpacesDiffer p q = refl
-later_is_one first second trace_file tool.ModelsSame tool.ModelsSame p q = refl
-later_is_one first second trace_file tool.SpacesDiffer tool.ModelsSame p q =
-    let same = same_read first second p.0 p.1 q.0 q.1 p.2 q.2 in
-    absurd (p.3 (subst (λ (l : Hierarchy). SameSpaces l.spaces p.1.spaces) (sym same.0)
-    (subst (λ (o : Hierarchy). SameSpaces q.0.spaces o.spaces) (sym same.1) q.3)))
-later_is_one first second trace_file tool.ModelsSame tool.SpacesDiffer p q =
-    let same = same_read first second q.0 q.1 p.0 p.1 q.2 p.2 in
-    absurd (q.3 (subst (λ (l : Hierarchy). SameSpaces l.spaces q.1.spaces) (sym same.0)
-    (subst (λ (o : Hierarchy). SameSpaces p.0.spaces o.spaces) (sym same.1) p.3)))
-later_is_one first second trace_file tool.SpacesDiffer (tool.Trace fault) p q = absurd (p.3 (models_same_spaces first second p.0 p.1 q.0 q.1 p.2 q.2))
-later_is_one first second trace_file (tool.Trace fault) tool.SpacesDiffer p q = absurd (q.3 (models_same_spaces first second q.0 q.1 p.0 p.1 q.2 p.2))
-later_is_one first second trace_file tool.ModelsSame (tool.Trace fault) p q = absurd (models_differ first second p.0 p.1 q.0 q.1 p.2 q.2 p.4)
-later_is_one first second trace_file (tool.Trace fault) tool.ModelsSame p q = absurd (models_differ first second q.0 q.1 p.0 p.1 q.2 p.2 q.4)
-later_is_one first second trace_file (tool.Trace fault) (tool.Trace more) p q =
-    let same = same_models first second p.0 p.1 q.0 q.1 p.2 q.2 in
-    let read : trace_of p.0.spaces trace_file ≡ Err more =
-    subst (λ (l : Hierarchy). trace_of l.spaces trace_file ≡ Err more) (sym same.0) q.3 in
-    let is : trace_of p.0.spaces trace_file ≡ Err fault = p.3 in
-    cc
-later_is_one first second trace_file tool.SpacesDiffer other p q = absurd q
-later_is_one first second trace_file tool.ModelsSame other p q = absurd q
-later_is_one first second trace_file (tool.Trace fault) other p q = absurd q
-later_is_one first second trace_file one other p q = absurd p
+-- a comparison refuses two files that are refused, and a trace that is refused over models
+pub files_refuse : (first_file second_file trace_file : List ℕ) (error : ToolError) → IsRefusal (models_in first_file second_file) error
+    → RefusesComparison first_file second_file trace_file error
+files_refuse first_file second_file trace_file = first_refuses (models_in first_file second_file) (then_trace trace_file)
+
+pub trace_refuses : (first_file second_file trace_file : List ℕ) (classical hierarchical : Hierarchy) (error : ToolError)
+    → AreModels first_file second_file classical hierarchical → IsRefusal (trace_over classical trace_file) error
+    → RefusesComparison first_file second_file trace_file error
+trace_refuses first_file second_file trace_file classical hierarchical error p refused =
+    second_refuses (models_in first_file second_file) (then_trace trace_file) (classical, hierarchical) error
+    (models_read first_file second_file classical hierarchical p)
+    (first_refuses (trace_over classical trace_file) (λ trace. Ok ((classical, hierarchical), trace)) error refused)
 
 pub comparison_refusal_is_one : (first second trace_file : List ℕ)
     → AtMostOne (λ (e : ToolError). TellsOfFiles e × RefusesComparison first second trace_file e)
-comparison_refusal_is_one first second trace_file one other (tells, refused) (also, too) =
-    elim (either first second trace_file one tells refused) [
-      | inl is ↦ elim (either first second trace_file other also too) [
-        | inl that ↦ same_some (of_hierarchies (hierarchy_of first) (hierarchy_of second)) one other is that
-        | inr later ↦ let none = later_read first second trace_file other later in absurd (cc)
-      ]
-      | inr later ↦ elim (either first second trace_file other also too) [
-        | inl that ↦ let none = later_read first second trace_file one later in absurd (cc)
-        | inr after ↦ later_is_one first second trace_file one other later after
-      ]
-    ]
-
--- what is compared has no such error
-compared_later : (first second trace_file : List ℕ) (k : ℕ) (text : List ℕ) (error : ToolError) → IsCompareText first second trace_file k text
-    → IsLater first second trace_file error → ⊥
-compared_later first second trace_file k text tool.SpacesDiffer p later =
-    later.3 (models_same_spaces first second later.0 later.1 p.classical p.hierarchical later.2 p.models)
-compared_later first second trace_file k text tool.ModelsSame p later =
-    models_differ first second later.0 later.1 p.classical p.hierarchical later.2 p.models later.4
-compared_later first second trace_file k text (tool.Trace fault) p later =
-    let same = same_models first second p.classical p.hierarchical later.0 later.1 p.models later.2 in
-    let read : trace_of p.classical.spaces trace_file ≡ Err fault =
-    subst (λ (l : Hierarchy). trace_of l.spaces trace_file ≡ Err fault) (sym same.0) later.3 in
-    let is = p.is_trace in
-    cc
-compared_later first second trace_file k text error p later = absurd later
+comparison_refusal_is_one first second trace_file = one_refusal (compared_files first second trace_file)
 
 pub compared_is_not_refused : (first second trace_file : List ℕ) → ComparedIsNotRefused first second trace_file
-compared_is_not_refused first second trace_file k text error p tells refused = elim (either first second trace_file error tells refused) [
-  | inl is ↦ let none = models_read first second p.classical p.hierarchical p.models in absurd (cc)
-  | inr later ↦ compared_later first second trace_file k text error p later
-]
+compared_is_not_refused first second trace_file k text error p =
+    no_refusal (compared_files first second trace_file) ((p.classical, p.hierarchical), p.trace) error
+    (ap (λ r. r >>= then_trace trace_file) (models_read first second p.classical p.hierarchical p.models)
+    ∙ ap (λ r. told tool.Trace r >>= λ (trace : Arrivals). Ok ((p.classical, p.hierarchical), trace)) p.is_trace)

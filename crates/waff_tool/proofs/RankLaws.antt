@@ -1,5 +1,5 @@
 -- Of the same files there is one rank or one refusal, and what it tells of the list plan is what a sweep tells.
-use Rattle.std.proofs.Common.{◌≡◌, ℕ, ◌+◌, ◌<◌, All, List, [], ◌∷◌, take, length, Some, None, Err, inl, inr, refl, sym, ◌∙◌, ap, subst, arith}
+use Rattle.std.proofs.Common.{◌≡◌, ℕ, ◌+◌, ◌<◌, All, List, [], ◌∷◌, take, length, Err, inl, inr, refl, sym, ◌∙◌, ap, subst, arith}
 use Rattle.std.proofs.lemmas.Bool.{cases_order}
 use Rattle.std.proofs.lemmas.List.{get_or-take, length-take-le}
 use Rattle.std.proofs.lemmas.List.Elements.{All-cons}
@@ -22,7 +22,7 @@ use Rattle.waff_figures.specs.declared.figures.Figures.{Figures}
 use Rattle.waff_inputs.specs.Inputs.{TellsOfFiles}
 use Rattle.waff_inputs.specs.declared.fault.ToolError.{ToolError}
 use Rattle.waff_inputs.specs.declared.fault.ToolError.TheVariants as tool
-use Rattle.waff_inputs.proofs.Refusals.{of_files, of_trace, refusal_is_one, refused_is}
+use Rattle.waff_inputs.specs.Known.{trace_of}
 use Rattle.waff_inputs.proofs.SameInput.{same_input, same_ok}
 use Rattle.waff_tool.specs.Ranks.{Admits, IsFirstRefused, IsFirstRefuted, IsHierarchy, IsRankText, IsRanked, IsRankedAsSwept, IsRankedUnder, RankedIsNotRefused, RefusesRank, Refutes, file_at, rank_header, rank_rows}
 use Rattle.waff_tool.specs.declared.ranks.Ranked.{Ranked}
@@ -83,9 +83,15 @@ not_both : (file : List ℕ) (fault : HierError) → IsHierarchy file → hierar
 not_both file fault (layout, read) refused = cc
 
 not_either : (trace_file : List ℕ) (fault : TraceError) (file : List ℕ) → Admits trace_file file → Refutes trace_file fault file → ⊥
-not_either trace_file fault file (layout, trace, read, is) refuted =
-    let found : of_files trace_file (hierarchy_of file) ≡ Some (tool.Trace fault) = refused_is file trace_file (tool.Trace fault) tt refuted in
-    let none : of_files trace_file (hierarchy_of file) ≡ None = ap (of_files trace_file) read ∙ ap of_trace is in
+not_either trace_file fault file (layout, trace, read, is) (other, also, refuted) =
+    let same = same_ok (hierarchy_of file) layout other read also in
+    let here : trace_of layout.spaces trace_file ≡ Err fault = subst (λ (l : Hierarchy). trace_of l.spaces trace_file ≡ Err fault) (sym same) refuted in
+    cc
+
+one_refuted : (trace_file : List ℕ) (fault more : TraceError) (file : List ℕ) → Refutes trace_file fault file → Refutes trace_file more file → fault ≡ more
+one_refuted trace_file fault more file (layout, read, is) (other, also, refuted) =
+    let same = same_ok (hierarchy_of file) layout other read also in
+    let here : trace_of layout.spaces trace_file ≡ Err more = subst (λ (l : Hierarchy). trace_of l.spaces trace_file ≡ Err more) (sym same) refuted in
     cc
 
 -- the first refused file is one
@@ -107,7 +113,7 @@ refuted_is_one : (files : List (List ℕ)) (trace_file : List ℕ) (fault more :
 refuted_is_one files trace_file fault more p q = elim (cases_order p.at q.at) [
   | inl same ↦
       let is : Refutes trace_file fault (file_at files q.at) = subst (λ n. Refutes trace_file fault (file_at files n)) same p.refuted in
-      refusal_is_one (file_at files q.at) trace_file (tool.Trace fault) (tool.Trace more) (tt, is) (tt, q.refuted)
+      ap tool.Trace (one_refuted trace_file fault more (file_at files q.at) is q.refuted)
   | inr (inl earlier) ↦
       absurd (not_either trace_file fault (file_at files p.at) (before_first (Admits trace_file) files p.at q.at earlier q.within q.before) p.refuted)
   | inr (inr later) ↦

@@ -32,7 +32,8 @@ use Rattle.waff_inputs.specs.Inputs.{Accepts, instance_under}
 use Rattle.waff_inputs.proofs.SameInput.{layout_tree, same_ok, same_trace, told_is_one}
 use Rattle.waff_tool.specs.AssignText.{IsAssignText, TellsAssignment}
 use Rattle.waff_tool.specs.PlanText.{IsPlanTextFor, TellsLeastPlan, TellsPlan, TellsWorkerPlan}
-use Rattle.waff_tool.specs.Comparison.{AreModels, IsCompareText, IsCompared, IsMeasured, compare_lines}
+use Rattle.waff_tool.specs.Comparison.{AreModels, IsCompareText, IsCompared, IsMeasured, compare_lines, models_in}
+use Rattle.waff_tool.proofs.ComparisonRefusals.{models_read}
 use Rattle.waff_tool.specs.declared.measures.Measured.{Measured}
 use Rattle.waff_tool.proofs.PlanUniqueness.{IsSound, chain_in_one, least_in_one, rule_in_one}
 use Rattle.waff_tool.proofs.LineLaws.{lines_same}
@@ -138,31 +139,12 @@ compared_is_one classical hierarchical trace k text other tree fine_tree runs p 
     ∙ sym q.lines
 
 -- two files are a classical and a hierarchical hierarchy in one way
-pub of_kinds : (one other : Hierarchy) → one.kind ≡ kind.Classical → other.kind ≡ kind.Hierarchical → one.kind ≡ other.kind → ⊥
-of_kinds one other is_classical is_hierarchical kinds =
-    let equal : kind.Classical ≡ kind.Hierarchical = sym is_classical ∙ kinds ∙ is_hierarchical in
-    cc
-
-apart : (one other : Hierarchy) → one.kind ≡ kind.Classical → other.kind ≡ kind.Hierarchical → one ≡ other → ⊥
-apart one other is_classical is_hierarchical same =
-    of_kinds one other is_classical is_hierarchical (ap (λ (l : Hierarchy). l.kind) same)
-
 pub same_models : (first second : List ℕ) (classical hierarchical coarse fine : Hierarchy) → AreModels first second classical hierarchical
     → AreModels first second coarse fine → (classical ≡ coarse) × (hierarchical ≡ fine)
-same_models first second classical hierarchical coarse fine p q = elim p.files [
-  | inl (one, two) ↦ elim q.files [
-    | inl (three, four) ↦
-        (same_ok (hierarchy_of first) classical coarse one three, same_ok (hierarchy_of second) hierarchical fine two four)
-    | inr (three, four) ↦
-        absurd (apart classical fine p.is_classical q.is_hierarchical (same_ok (hierarchy_of first) classical fine one three))
-  ]
-  | inr (one, two) ↦ elim q.files [
-    | inl (three, four) ↦
-        absurd (apart coarse hierarchical q.is_classical p.is_hierarchical (same_ok (hierarchy_of first) coarse hierarchical three one))
-    | inr (three, four) ↦
-        (same_ok (hierarchy_of second) classical coarse two four, same_ok (hierarchy_of first) hierarchical fine one three)
-  ]
-]
+same_models first second classical hierarchical coarse fine p q =
+    let same = same_ok (models_in first second) (classical, hierarchical) (coarse, fine)
+    (models_read first second classical hierarchical p) (models_read first second coarse fine q) in
+    (ap (λ (m : Hierarchy × Hierarchy). m.0) same, ap (λ (m : Hierarchy × Hierarchy). m.1) same)
 
 models_trees : (first second : List ℕ) (classical hierarchical : Hierarchy) → AreModels first second classical hierarchical
     → IsTree classical.tree × IsTree hierarchical.tree

@@ -1,18 +1,15 @@
 -- What a check of a plan text finds and prints.
-use Rattle.std.specs.Prelude.{◌≡◌, ℕ, List, [], ◌∷◌, length, Ok, Err, codes, decimal}
-use Rattle.waff_model.specs.Layout.{Hierarchy}
+use Rattle.std.specs.Prelude.{◌≡◌, ℕ, List, [], ◌∷◌, length, Result, Ok, codes, decimal}
+use Rattle.waff_parse.specs.Refusals.{◌>>=◌, told}
 use Rattle.waff_model.specs.Messages.{Arrivals}
-use Rattle.waff_read.specs.Hierarchies.{hierarchy_of}
-use Rattle.waff_inputs.specs.Known.{trace_of}
 use Rattle.waff_assign.specs.Instance.{Instance}
 use Rattle.waff_plan_text.specs.Given.{Given}
 use Rattle.waff_plan_text.specs.PlanTexts.{plan_of}
 use Rattle.waff_check.specs.Promises.{Promises}
 use Rattle.waff_check.specs.Verdicts.{IsVerdict, claim_of}
-use Rattle.waff_plan_text.specs.declared.refusal.PlanTextError.{PlanTextError}
 use Rattle.waff_check.specs.declared.verdict.Verdict.{Verdict}
 use Rattle.waff_check.specs.declared.verdict.Verdict.TheVariants as verdict
-use Rattle.waff_inputs.specs.Inputs.{Accepts, Refuses}
+use Rattle.waff_inputs.specs.Inputs.{Accepts, IsRefusal, files_of}
 use Rattle.waff_plan_text.specs.Lines.{line_text}
 use Rattle.waff_inputs.specs.declared.fault.ToolError.{ToolError}
 use Rattle.waff_inputs.specs.declared.fault.ToolError.TheVariants as tool
@@ -61,18 +58,20 @@ pub record IsCheckText (hierarchy_file trace_file plan_file : List ℕ) (v : Ver
   pub verdict : IsVerdict (claim_of instance given) v
   pub promises : Promises (claim_of instance given) v
 
--- the hierarchy and the trace are accepted, and the text of the plan is refused
-pub record RefusesPlan (hierarchy_file trace_file plan_file : List ℕ)
-    (fault : PlanTextError) : Type 0 where
-  pub layout : Hierarchy
-  pub trace : Arrivals
-  pub is_layout : hierarchy_of hierarchy_file ≡ Ok layout
-  pub is_trace : trace_of layout.spaces trace_file ≡ Ok trace
-  pub refused : plan_of trace.version (length trace.messages) plan_file ≡ Err fault
+-- what bytes are read as, as the text of a plan for a trace
+abbrev pub given_for : Arrivals → List ℕ → Result Given ToolError
+given_for trace plan_file =
+    told tool.PlanText (plan_of trace.version (length trace.messages) plan_file)
 
--- an error tells the first file that is refused, and why; an allocation failure and a writer's fault tell
--- nothing of the files
+-- what the bytes of a hierarchy, of a trace over it and of the text of a plan for it are read as, in this
+-- order
+abbrev pub checked_files : List ℕ → List ℕ → List ℕ → Result (Arrivals × Given) ToolError
+checked_files hierarchy_file trace_file plan_file = do
+  files ← files_of hierarchy_file trace_file
+  given ← given_for files.1 plan_file
+  Ok (files.1, given)
+
+-- an error tells the first file that is refused, and why
 abbrev pub RefusesCheck : List ℕ → List ℕ → List ℕ → ToolError → Type 0
-RefusesCheck hierarchy_file trace_file plan_file (tool.PlanText fault) =
-    RefusesPlan hierarchy_file trace_file plan_file fault
-RefusesCheck hierarchy_file trace_file plan_file error = Refuses hierarchy_file trace_file error
+RefusesCheck hierarchy_file trace_file plan_file =
+    IsRefusal (checked_files hierarchy_file trace_file plan_file)

@@ -1,6 +1,9 @@
 -- What is printed where a classical and a hierarchical hierarchy are compared on one trace.
 use Rattle.std.specs.Prelude.{◌≡◌, ◌≢◌, ℕ, ◌≤◌, ◌⊎◌, ◌↔◌, Bool, true, false, IsTrue, List, [], ◌∷◌, ◌++◌}
-use Rattle.std.specs.Prelude.{◌<◌, All, length, Some, None, Ok, Err, codes, decimal}
+use Rattle.std.specs.Prelude.{◌<◌, ◌==◌, ◌&&◌, All, length, Some, None, Result, Ok, Err, codes, decimal}
+use Rattle.std.specs.Prelude.{if◌then◌else◌}
+use Rattle.std.specs.List.{list_all, zip}
+use Rattle.std.specs.Str.{bytes_eq}
 use Rattle.waff_model.specs.Layout.{Hierarchy, SameSpaces}
 use Rattle.waff_model.specs.Messages.{Arrivals}
 use Rattle.waff_model.specs.declared.kind.Kind.{Kind}
@@ -19,7 +22,8 @@ use Rattle.waff_plan.specs.Totals.{totals_of}
 use Rattle.waff_plan.specs.Work.{total_of}
 use Rattle.waff_plan.specs.declared.totals.Totals.{Totals}
 use Rattle.waff_list.specs.declared.rule.Rule.TheVariants.{Arrival}
-use Rattle.waff_inputs.specs.Inputs.{RefusesHierarchy, instance_under}
+use Rattle.waff_inputs.specs.Inputs.{IsRefusal, instance_under, layout_of, trace_over}
+use Rattle.waff_parse.specs.Refusals.{◌>>=◌}
 use Rattle.waff_tool.specs.Certificates.{IsBounded, IsCertified}
 use Rattle.waff_plan_text.specs.Lines.{text_of}
 use Rattle.waff_inputs.specs.declared.fault.ToolError.{ToolError}
@@ -148,27 +152,41 @@ abbrev pub AreHierarchies : List ℕ → List ℕ → Hierarchy → Hierarchy �
 AreHierarchies first_file second_file first second =
     (hierarchy_of first_file ≡ Ok first) × (hierarchy_of second_file ≡ Ok second)
 
--- an error tells the first of the faults of two hierarchies, in this order: the first one is
--- refused, the second one is, their spaces differ, their models are the same
-abbrev pub RefusesModels : List ℕ → List ℕ → ToolError → Type 0
-RefusesModels first_file second_file tool.SpacesDiffer =
-    (first : Hierarchy) × (second : Hierarchy) × AreHierarchies first_file second_file first second
-    × ¬ SameSpaces first.spaces second.spaces
-RefusesModels first_file second_file tool.ModelsSame =
-    (first : Hierarchy) × (second : Hierarchy) × AreHierarchies first_file second_file first second
-    × SameSpaces first.spaces second.spaces × (first.kind ≡ second.kind)
-RefusesModels first_file second_file error =
-    RefusesHierarchy 1 first_file error
-    ⊎ ((first : Hierarchy) × (hierarchy_of first_file ≡ Ok first)
-    × RefusesHierarchy 2 second_file error)
+-- whether two hierarchies have the same spaces
+abbrev pub have_same_spaces : Hierarchy → Hierarchy → Bool
+have_same_spaces first second =
+    length first.spaces == length second.spaces
+    && list_all (λ pair. bytes_eq pair.0.name pair.1.name && pair.0.size == pair.1.size)
+    (zip first.spaces second.spaces)
 
--- an error tells the first of the faults: of the hierarchies, and then of the trace; an allocation failure
--- and a writer's fault tell nothing of the files
+-- the classical one of two hierarchies first
+abbrev pub by_kind : Kind → Kind → Hierarchy × Hierarchy → Result (Hierarchy × Hierarchy) ToolError
+by_kind kind.Classical kind.Hierarchical pair = Ok pair
+by_kind kind.Hierarchical kind.Classical pair = Ok (pair.1, pair.0)
+by_kind kind.Classical kind.Classical pair = Err tool.ModelsSame
+by_kind kind.Hierarchical kind.Hierarchical pair = Err tool.ModelsSame
+
+-- two hierarchies as models of the same spaces
+abbrev pub as_models : Hierarchy → Hierarchy → Result (Hierarchy × Hierarchy) ToolError
+as_models first second =
+    if have_same_spaces first second then by_kind first.kind second.kind (first, second)
+    else Err tool.SpacesDiffer
+
+-- what the bytes of two hierarchies are read as: each of them, and then both as models
+abbrev pub models_in : List ℕ → List ℕ → Result (Hierarchy × Hierarchy) ToolError
+models_in first_file second_file = do
+  first ← layout_of 1 first_file
+  second ← layout_of 2 second_file
+  as_models first second
+
+-- what the bytes of two hierarchies and of a trace over them are read as, in this order
+abbrev pub compared_files : List ℕ → List ℕ → List ℕ → Result ((Hierarchy × Hierarchy) × Arrivals) ToolError
+compared_files first_file second_file trace_file = do
+  models ← models_in first_file second_file
+  trace ← trace_over models.0 trace_file
+  Ok (models, trace)
+
+-- an error tells the first of the faults of the files
 abbrev pub RefusesComparison : List ℕ → List ℕ → List ℕ → ToolError → Type 0
-RefusesComparison first_file second_file trace_file (tool.Trace fault) =
-    (classical : Hierarchy) × (hierarchical : Hierarchy)
-    × AreModels first_file second_file classical hierarchical
-    × (trace_of classical.spaces trace_file ≡ Err fault)
-RefusesComparison first_file second_file trace_file tool.Write = Unit {0}
-RefusesComparison first_file second_file trace_file error =
-    RefusesModels first_file second_file error
+RefusesComparison first_file second_file trace_file =
+    IsRefusal (compared_files first_file second_file trace_file)

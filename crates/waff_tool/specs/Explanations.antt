@@ -1,12 +1,8 @@
 -- What an explanation of one to three files tells: the fault or the verdict that the other commands
 -- tell of the same files.
-use Rattle.std.specs.Prelude.{◌≡◌, ◌≢◌, ℕ, List, [], ◌∷◌, ◌++◌, Option, Some, None, Ok, codes}
-use Rattle.waff_model.specs.Layout.{Hierarchy}
-use Rattle.waff_model.specs.Messages.{Arrivals}
-use Rattle.waff_read.specs.Hierarchies.{hierarchy_of}
-use Rattle.waff_inputs.specs.Known.{trace_of}
-use Rattle.waff_tool.specs.CheckText.{IsCheckText, RefusesCheck, status_after, verdict_text}
-use Rattle.waff_inputs.specs.Inputs.{Refuses, RefusesHierarchy, TellsOfFiles}
+use Rattle.std.specs.Prelude.{◌≡◌, ◌≢◌, ℕ, List, [], ◌∷◌, ◌++◌, Option, Some, None, Result, Ok, Err, codes}
+use Rattle.waff_tool.specs.CheckText.{IsCheckText, checked_files, status_after, verdict_text}
+use Rattle.waff_inputs.specs.Inputs.{files_of, layout_of}
 use Rattle.waff_inputs.specs.Fault.{fault_line, status_of}
 use Rattle.waff_explain.specs.Lines.{AreHeadedLines, IsHeadedLine}
 use Rattle.waff_tool.specs.declared.explains.Explained.{Explained}
@@ -20,37 +16,24 @@ RefusesWork tool.Memory = Unit {0}
 RefusesWork tool.Write = Unit {0}
 RefusesWork error = ⊥
 
--- what is explained of a hierarchy alone: the fault for which it is refused, nothing where it is
--- accepted
-abbrev pub OfHierarchy : List ℕ → Explained → Type 0
-OfHierarchy hierarchy_file explained.Well =
-    (layout : Hierarchy) × (hierarchy_of hierarchy_file ≡ Ok layout)
-OfHierarchy hierarchy_file (explained.Fault error) =
-    TellsOfFiles error × RefusesHierarchy 1 hierarchy_file error
-OfHierarchy hierarchy_file (explained.Verdict v) = ⊥
-
--- what is explained of a hierarchy and a trace: the fault for which the first that is refused is
--- refused
-abbrev pub OfTrace : List ℕ → List ℕ → Explained → Type 0
-OfTrace hierarchy_file trace_file explained.Well =
-    (layout : Hierarchy) × (trace : Arrivals) × (hierarchy_of hierarchy_file ≡ Ok layout)
-    × (trace_of layout.spaces trace_file ≡ Ok trace)
-OfTrace hierarchy_file trace_file (explained.Fault error) =
-    TellsOfFiles error × Refuses hierarchy_file trace_file error
-OfTrace hierarchy_file trace_file (explained.Verdict v) = ⊥
+-- what is explained of a reading of files: nothing where it succeeds, else its fault
+abbrev pub Explains : {A : Type 0} → Result A ToolError → Explained → Type 0
+Explains {A} read explained.Well = (a : A) × (read ≡ Ok a)
+Explains read (explained.Fault error) = read ≡ Err error
+Explains read (explained.Verdict v) = ⊥
 
 -- what is explained of a plan: what a check of it tells
 abbrev pub OfPlan : List ℕ → List ℕ → List ℕ → Explained → Type 0
 OfPlan hierarchy_file trace_file plan_file explained.Well = ⊥
 OfPlan hierarchy_file trace_file plan_file (explained.Fault error) =
-    TellsOfFiles error × RefusesCheck hierarchy_file trace_file plan_file error
+    checked_files hierarchy_file trace_file plan_file ≡ Err error
 OfPlan hierarchy_file trace_file plan_file (explained.Verdict v) =
     IsCheckText hierarchy_file trace_file plan_file v
 
 -- what is explained of one to three files; a plan without a trace is not looked at
 abbrev pub IsExplained : List ℕ → Option (List ℕ) → Option (List ℕ) → Explained → Type 0
-IsExplained hierarchy_file None plan_file e = OfHierarchy hierarchy_file e
-IsExplained hierarchy_file (Some trace_file) None e = OfTrace hierarchy_file trace_file e
+IsExplained hierarchy_file None plan_file e = Explains (layout_of 1 hierarchy_file) e
+IsExplained hierarchy_file (Some trace_file) None e = Explains (files_of hierarchy_file trace_file) e
 IsExplained hierarchy_file (Some trace_file) (Some plan_file) e =
     OfPlan hierarchy_file trace_file plan_file e
 

@@ -2,7 +2,7 @@
 use Rattle.std.specs.Prelude.{◌≡◌, ℕ, ◌+◌, ◌<◌, List, [], ◌∷◌, Some, Ok, Err, All, codes, decimal}
 use Rattle.std.specs.Prelude.{length, slice_index_or, take}
 use Rattle.std.specs.List.{AllZip}
-use Rattle.waff_model.specs.Layout.{Hierarchy}
+use Rattle.waff_model.specs.Layout.{Hierarchy, SameSpaces}
 use Rattle.waff_model.specs.Messages.{Arrivals}
 use Rattle.waff_model.specs.declared.kind.Kind.{Kind}
 use Rattle.waff_read.specs.Hierarchies.{hierarchy_of}
@@ -43,6 +43,16 @@ pub record IsRanked (rule : Rule) (trace_file : List ℕ) (k : ℕ) (hierarchy_f
   pub instance : Instance
   pub accepts : Accepts hierarchy_file trace_file instance
   pub under : IsRankedUnder rule accepts.layout.kind k instance ranked
+
+-- what is told of a trace that was read, under a hierarchy
+abbrev pub IsRankedOver : Rule → Arrivals → ℕ → Hierarchy → Ranked → Type 0
+IsRankedOver rule trace k layout ranked =
+    (file trace_file : List ℕ) → hierarchy_of file ≡ Ok layout
+    → trace_of layout.spaces trace_file ≡ Ok trace → IsRanked rule trace_file k file ranked
+
+-- another hierarchy has the same spaces
+abbrev pub HasSpacesOf : Hierarchy → Hierarchy → Type 0
+HasSpacesOf layout other = SameSpaces layout.spaces other.spaces
 
 abbrev pub rank_header : List (List ℕ)
 rank_header =

@@ -1,10 +1,12 @@
 -- What a replay prints: a header, and a line for each cell whose number is not 0.
-use Rattle.std.specs.Prelude.{◌≡◌, ℕ, ◌==◌, Bool, not, List, [], ◌∷◌, Ok, Err, length, map, codes}
-use Rattle.std.specs.Prelude.{decimal}
+use Rattle.std.specs.Prelude.{◌≡◌, ℕ, ◌==◌, Bool, not, nat_lt, sum_by, List, [], ◌∷◌, Result, Ok, Err}
+use Rattle.std.specs.Prelude.{decimal, length, map, codes, if◌then◌else◌}
+use Rattle.waff_parse.specs.Refusals.{◌>>=◌}
 use Rattle.std.specs.List.{filter}
 use Rattle.waff_model.specs.Layout.{Hierarchy, HasFewCells, Space}
 use Rattle.waff_model.specs.Messages.{Arrivals}
 use Rattle.waff_model.specs.declared.cell.Cell.{Cell}
+use Rattle.waff_model.specs.declared.limits.TheConstants.{MAX_CELLS}
 use Rattle.waff_read.specs.Hierarchies.{hierarchy_of}
 use Rattle.waff_read.specs.Spellings.{cell_spelled}
 use Rattle.waff_inputs.specs.Known.{trace_of}
@@ -12,7 +14,7 @@ use Rattle.waff_cells.specs.InOrder.{all_cells}
 use Rattle.waff_cells.specs.Meaning.{Cells}
 use Rattle.waff_cells.specs.Serial.{operations, serial}
 use Rattle.waff_plan_text.specs.Lines.{text_of}
-use Rattle.waff_inputs.specs.Inputs.{Refuses}
+use Rattle.waff_inputs.specs.Inputs.{IsRefusal, layout_of, trace_over}
 use Rattle.waff_inputs.specs.declared.fault.ToolError.{ToolError}
 use Rattle.waff_inputs.specs.declared.fault.ToolError.TheVariants as tool
 
@@ -50,12 +52,21 @@ pub record IsReplayText (hierarchy_file trace_file text : List ℕ) : Type 0 whe
   pub is_trace : trace_of layout.spaces trace_file ≡ Ok trace
   pub lines : text ≡ text_of (state_lines layout.spaces (state_after trace))
 
--- an error tells why a replay refuses the files: where every command does, but a hierarchy of more
--- cells than a replay keeps before the trace is read
+-- a hierarchy of so few cells that a replay keeps them
+abbrev pub of_few_cells : Hierarchy → Result Hierarchy ToolError
+of_few_cells layout =
+    if nat_lt MAX_CELLS (sum_by (λ space. space.size) layout.spaces) then Err tool.TooManyCells
+    else Ok layout
+
+-- what the bytes of a hierarchy and of a trace over it are read as for a replay, which looks how many cells
+-- there are before it reads the trace
+abbrev pub replayed_files : List ℕ → List ℕ → Result (Hierarchy × Arrivals) ToolError
+replayed_files hierarchy_file trace_file = do
+  layout ← layout_of 1 hierarchy_file
+  few ← of_few_cells layout
+  trace ← trace_over few trace_file
+  Ok (few, trace)
+
+-- an error tells why a replay refuses the files
 abbrev pub RefusesReplay : List ℕ → List ℕ → ToolError → Type 0
-RefusesReplay hierarchy_file trace_file (tool.Trace fault) =
-    (layout : Hierarchy) × (hierarchy_of hierarchy_file ≡ Ok layout) × HasFewCells layout.spaces
-    × (trace_of layout.spaces trace_file ≡ Err fault)
-RefusesReplay hierarchy_file trace_file tool.TooManyCells =
-    (layout : Hierarchy) × (hierarchy_of hierarchy_file ≡ Ok layout) × ¬ HasFewCells layout.spaces
-RefusesReplay hierarchy_file trace_file error = Refuses hierarchy_file trace_file error
+RefusesReplay hierarchy_file trace_file = IsRefusal (replayed_files hierarchy_file trace_file)

@@ -42,6 +42,7 @@ pub fn check_text<R: Threads + Sync, W: Write>(
 }
 
 /// The verdict on the plan of the text. The hierarchy is read first, then the trace.
+#[tactic(auto, using(crate::proofs::CheckRefusals::files_refuse))]
 pub fn made_verdict<R: Threads + Sync>(
     rt: &R,
     alloc: Global,
@@ -59,6 +60,7 @@ pub fn made_verdict<R: Threads + Sync>(
 }
 
 /// The verdict on the plan of the text for a case.
+#[tactic(auto, using(crate::proofs::CheckRefusals::plan_refuses))]
 fn verdict_on<R: Threads + Sync>(
     rt: &R,
     alloc: Global,

@@ -7,8 +7,9 @@ ghost use Rattle.waff_model.specs.Messages.{sizes_of};
 ghost use Rattle.waff_plan.specs.Bound.{IsWorkers};
 ghost use Rattle.waff_read.specs.Hierarchies.{hierarchy_of};
 ghost use Rattle.waff_tool.specs.Comparison.{AreHierarchies, AreAssignedAndMeasured, AreModels, IsCompared};
-ghost use Rattle.waff_tool.specs.Comparison.{IsCompareText, RefusesComparison};
+ghost use Rattle.waff_tool.specs.Comparison.{IsCompareText, RefusesComparison, as_models, models_in};
 ghost use Rattle.waff_inputs.specs.Deliveries.{Delivers, Makes};
+ghost use Rattle.waff_inputs.specs.Inputs.{IsRefusal, trace_over};
 
 use crate::measures::{Measured, comparison_text, measure, measure_side_by_side};
 use std::alloc::{AllocError, Global};
@@ -75,6 +76,7 @@ pub fn compare_text_by_threads<R: Threads + Sync, W: Write>(
     )
 }
 
+#[tactic(auto, using(crate::proofs::ComparisonRefusals::files_refuse))]
 fn made_compare_text(
     alloc: Global,
     first: &[u8],
@@ -99,9 +101,7 @@ fn models_text(alloc: Global, models: &Models, trace: &[u8], k: u32) -> Result<S
     ensures made { IfOk result (λ text. (first_file second_file : List ℕ)
         → AreModels first_file second_file models.now.classical models.now.hierarchical
         → IsCompareText first_file second_file trace.now k (string_bytes text)) }
-    ensures refused { IfErr result (λ e. (first_file second_file : List ℕ)
-        → AreModels first_file second_file models.now.classical models.now.hierarchical
-        → RefusesComparison first_file second_file trace.now e) }
+    ensures refused { IfErr result (IsRefusal (trace_over models.now.classical trace.now)) }
     ensures nothing { IfErr result (λ e. e ≢ ToolError.Write) }
 {
     let trace = read_trace(alloc, &models.classical, trace)?;
@@ -110,6 +110,7 @@ fn models_text(alloc: Global, models: &Models, trace: &[u8], k: u32) -> Result<S
     text.map_err(ToolError::from)
 }
 
+#[tactic(auto, using(crate::proofs::ComparisonRefusals::files_refuse))]
 fn made_by_threads<R: Threads + Sync>(
     rt: &R,
     alloc: Global,
@@ -141,9 +142,7 @@ fn models_text_by_threads<R: Threads + Sync>(
     ensures made { IfOk result (λ text. (first_file second_file : List ℕ)
         → AreModels first_file second_file models.now.classical models.now.hierarchical
         → IsCompareText first_file second_file trace.now k (string_bytes text)) }
-    ensures refused { IfErr result (λ e. (first_file second_file : List ℕ)
-        → AreModels first_file second_file models.now.classical models.now.hierarchical
-        → RefusesComparison first_file second_file trace.now e) }
+    ensures refused { IfErr result (IsRefusal (trace_over models.now.classical trace.now)) }
     ensures nothing { IfErr result (λ e. e ≢ ToolError.Write) }
 {
     let trace = read_trace_by_threads(rt, alloc, &models.classical, trace)?;
@@ -153,11 +152,11 @@ fn models_text_by_threads<R: Threads + Sync>(
 }
 
 /// The classical and the hierarchical one of two hierarchies, which have to be of the same spaces.
+#[tactic(auto, using(crate::proofs::ComparisonRefusals::first_is_refused, crate::proofs::ComparisonRefusals::second_is_refused, crate::proofs::ComparisonRefusals::models_are_refused))]
 fn read_models(alloc: Global, first: &[u8], second: &[u8]) -> Result<Models, ToolError>
     ensures models { IfOk result (λ models.
         AreModels first.now second.now models.classical models.hierarchical) }
-    ensures refused { IfErr result (λ e. (trace_file : List ℕ)
-        → RefusesComparison first.now second.now trace_file e) }
+    ensures refused { IfErr result (IsRefusal (models_in first.now second.now)) }
     ensures nothing { IfErr result (λ e. e ≢ ToolError.Write) }
 {
     let first = read_numbered(alloc, 1, first)?;
@@ -171,34 +170,34 @@ fn read_models(alloc: Global, first: &[u8], second: &[u8]) -> Result<Models, Too
 }
 
 /// Two hierarchies, the classical one first.
+#[tactic(auto, using(crate::proofs::ComparisonRefusals::spaces_differ, crate::proofs::ComparisonRefusals::models_same))]
 fn models_of(first: Layout, second: Layout) -> Result<Models, ToolError>
     ensures models { IfOk result (λ models. (first_file second_file : List ℕ)
         → AreHierarchies first_file second_file first second
         → AreModels first_file second_file models.classical models.hierarchical) }
-    ensures refused { IfErr result (λ e. (first_file second_file trace_file : List ℕ)
-        → AreHierarchies first_file second_file first second
-        → RefusesComparison first_file second_file trace_file e) }
+    ensures refused { IfErr result (IsRefusal (as_models first second)) }
     ensures nothing { IfErr result (λ e. e ≢ ToolError.Write) }
 {
-    let error = match (first.same_spaces(&second), first.kind(), second.kind()) {
-        (true, Kind::Classical, Kind::Hierarchical) => {
-            return Ok(Models {
-                classical: first,
-                hierarchical: second,
-            });
+    if !first.same_spaces(&second) {
+        drop(first);
+        drop(second);
+        return Err(ToolError::SpacesDiffer);
+    }
+    match (first.kind(), second.kind()) {
+        (Kind::Classical, Kind::Hierarchical) => Ok(Models {
+            classical: first,
+            hierarchical: second,
+        }),
+        (Kind::Hierarchical, Kind::Classical) => Ok(Models {
+            classical: second,
+            hierarchical: first,
+        }),
+        (Kind::Classical, Kind::Classical) | (Kind::Hierarchical, Kind::Hierarchical) => {
+            drop(first);
+            drop(second);
+            Err(ToolError::ModelsSame)
         }
-        (true, Kind::Hierarchical, Kind::Classical) => {
-            return Ok(Models {
-                classical: second,
-                hierarchical: first,
-            });
-        }
-        (true, _, _) => ToolError::ModelsSame,
-        (false, _, _) => ToolError::SpacesDiffer,
-    };
-    drop(first);
-    drop(second);
-    Err(error)
+    }
 }
 
 /// The text that compares the models on the trace for k workers.

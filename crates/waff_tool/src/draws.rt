@@ -47,6 +47,7 @@ pub fn draw_text<R: Threads + Sync, W: Write>(
     )
 }
 
+#[tactic(auto, using(crate::proofs::CheckRefusals::files_refuse))]
 fn made_picture<R: Threads + Sync>(
     rt: &R,
     alloc: Global,
@@ -67,6 +68,7 @@ fn made_picture<R: Threads + Sync>(
 }
 
 /// The picture of this part of the plan of the text for a case.
+#[tactic(auto, using(crate::proofs::CheckRefusals::plan_refuses))]
 fn picture_on(
     alloc: Global,
     case: &Case<'_>,

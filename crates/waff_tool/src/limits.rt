@@ -59,7 +59,7 @@ fn made_limits_text<R: Threads + Sync>(
         (Refuses hierarchy.now trace.now) result }
 {
     let accepted = accept_by_threads(rt, alloc, hierarchy, trace)?;
-    let text = limited_text(alloc, &accepted.layout, &accepted.case(), workers, rule).map_err(
+    let text = limited_text(rt, alloc, &accepted.layout, &accepted.case(), workers, rule).map_err(
         ToolError::from,
     );
     drop(accepted);
@@ -67,7 +67,8 @@ fn made_limits_text<R: Threads + Sync>(
 }
 
 /// The text of what limits a case over this layout.
-fn limited_text(
+fn limited_text<R: Threads + Sync>(
+    rt: &R,
     alloc: Global,
     layout: &Layout,
     case: &Case<'_>,
@@ -85,7 +86,7 @@ fn limited_text(
         plan: &plan,
     };
     let limits = limits_of(alloc, &planned)?;
-    let listed = list_figures(alloc, &planned, rule, workers)?;
+    let listed = list_figures(rt, alloc, &planned, rule, workers)?;
     let text = text_of_limits(alloc, layout, &planned, workers, &limits, listed.as_slice());
     drop(listed);
     drop(plan);

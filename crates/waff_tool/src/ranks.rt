@@ -1,26 +1,29 @@
 //! The command that ranks several hierarchies on one trace.
-ghost use Rattle.std.specs.Prelude.{◌≡◌, ◌≢◌, ◌<◌, ◌≤◌, ◌+◌, ◌++◌, ◌∷◌, Ok, ℕ, List, IfOk, IfErr};
-ghost use Rattle.std.specs.Prelude.{[], OnOk, length, map, string_bytes};
+ghost use Rattle.std.specs.Prelude.{◌≡◌, ◌≢◌, ◌<◌, ◌≤◌, ◌+◌, ◌++◌, ◌∷◌, ◌↔◌, Ok, ℕ, All, List, IfOk, IfErr};
+ghost use Rattle.std.specs.Prelude.{[], IfSome, IsTrue, OnOk, Some, length, map, slice_get, string_bytes};
 ghost use Rattle.std.specs.List.{AllZip};
+ghost use Rattle.std.specs.Thread.{IsSync};
+ghost use Rattle.waff_model.specs.Layout.{Hierarchy};
 ghost use Rattle.waff_model.specs.Messages.{sizes_of};
 ghost use Rattle.waff_model.specs.Unique.{AtMostOne};
 ghost use Rattle.waff_read.specs.Hierarchies.{hierarchy_of};
-ghost use Rattle.waff_inputs.specs.Known.{trace_of};
 ghost use Rattle.waff_assign.specs.Case.{instance_of};
 ghost use Rattle.waff_plan.specs.Bound.{IsWorkers};
 ghost use Rattle.waff_plan_text.specs.Lines.{Adds, line_text, text_of};
 ghost use Rattle.waff_inputs.specs.Deliveries.{Delivers, Makes};
 ghost use Rattle.waff_inputs.specs.Inputs.{Refuses, TellsOfFiles};
-ghost use Rattle.waff_tool.specs.Ranks.{AreRead, IsRanked, IsRankedAsSwept, IsRankedUnder};
+ghost use Rattle.waff_tool.specs.Ranks.{AreRead, HasSpacesOf, IsRanked, IsRankedAsSwept};
+ghost use Rattle.waff_tool.specs.Ranks.{IsRankedOver, IsRankedUnder};
 ghost use Rattle.waff_tool.specs.Ranks.{IsRankText, RankedIsNotRefused, RefusesRank};
 ghost use Rattle.waff_tool.specs.Ranks.{rank_header, rank_row, rank_rows};
 
 use crate::measures::kind_name;
 use std::alloc::{AllocError, Global};
 use std::io::Write;
+use std::thread;
 use std::thread::Threads;
 use waff_assign::{Case, assign_by_threads};
-use waff_figures::{Figures, QUALITY, QualityFields, list_figures_for};
+use waff_figures::{Figures, QUALITY, QualityFields, all_made, list_figures_for, sides};
 use waff_inputs::{MAX_RANKED, ToolError, deliver, read_numbered, read_trace_by_threads};
 use waff_list::Rule;
 use waff_model::{Kind, Layout, Trace};
@@ -131,8 +134,93 @@ fn text_under_all<R: Threads + Sync>(
     text.map_err(ToolError::from)
 }
 
-/// What is told of the trace under each of these hierarchies.
+/// What is told of the trace under each of these hierarchies. Where all have the same spaces the trace
+/// is read once.
 fn rank_all<R: Threads + Sync>(
+    rt: &R,
+    alloc: Global,
+    layouts: &[Layout],
+    trace: &[u8],
+    k: u32,
+    rule: Rule,
+) -> Result<Vec<Ranked>, ToolError>
+    requires workers { IsWorkers k }
+    ensures made { IfOk result (λ ranks. (files : List (List ℕ)) → AreRead files layouts.now
+        → AllZip (IsRanked rule trace.now k) files ranks.items) }
+    ensures refused { IfErr result (λ e. (files : List (List ℕ)) → AreRead files layouts.now
+        → RefusesRank files trace.now e) }
+    ensures nothing { IfErr result (λ e. e ≢ ToolError.Write) }
+{
+    match layouts.first() {
+        Some(first) if all_have_spaces_of(first, layouts) => rank_over_one(
+            rt, alloc, first, layouts, trace, k, rule,
+        ),
+        _ => rank_in_turn(rt, alloc, layouts, trace, k, rule),
+    }
+}
+
+/// Whether all of these hierarchies have the spaces of this one.
+fn all_have_spaces_of(layout: &Layout, others: &[Layout]) -> bool
+    ensures { IsTrue result ↔ All (HasSpacesOf layout.now) others.now }
+{
+    others.iter().all(|other| layout.same_spaces(other))
+}
+
+/// What `rank_all` tells where all of these hierarchies have the spaces of the first.
+fn rank_over_one<R: Threads + Sync>(
+    rt: &R,
+    alloc: Global,
+    first: &Layout,
+    layouts: &[Layout],
+    trace: &[u8],
+    k: u32,
+    rule: Rule,
+) -> Result<Vec<Ranked>, ToolError>
+    requires first { slice_get layouts.now 0 ≡ Some first.now }
+    requires same_spaces { All (HasSpacesOf first.now) layouts.now }
+    requires workers { IsWorkers k }
+    ensures made { IfOk result (λ ranks. (files : List (List ℕ)) → AreRead files layouts.now
+        → AllZip (IsRanked rule trace.now k) files ranks.items) }
+    ensures refused { IfErr result (λ e. (files : List (List ℕ)) → AreRead files layouts.now
+        → RefusesRank files trace.now e) }
+    ensures nothing { IfErr result (λ e. e ≢ ToolError.Write) }
+{
+    let trace = read_trace_by_threads(rt, alloc, first, trace)?;
+    let ranks = rank_side_by_side(rt, alloc, layouts, &trace, k, rule);
+    drop(trace);
+    ranks.map_err(ToolError::from)
+}
+
+/// What is told of the trace that was read under each of these hierarchies, side by side.
+fn rank_side_by_side<R: Threads + Sync>(
+    rt: &R,
+    alloc: Global,
+    layouts: &[Layout],
+    trace: &Trace,
+    k: u32,
+    rule: Rule,
+) -> Result<Vec<Ranked>, AllocError>
+    requires fits { All (λ layout. trace.now.sizes ≡ sizes_of layout.spaces) layouts.now }
+    requires workers { IsWorkers k }
+    ensures { IfOk result (λ ranks. AllZip (IsRankedOver rule trace.now k) layouts.now ranks.items) }
+{
+    let mut made = vec![in alloc; None; layouts.len()]?;
+    let one = move |place: usize, made: &mut Option<Ranked>|
+        requires threads { IsSync R.row }
+        requires place { place < length layouts.now }
+        requires fits { All (λ layout. trace.now.sizes ≡ sizes_of layout.spaces) layouts.now }
+        requires workers { IsWorkers k }
+        ensures { IfSome made.new (λ ranked. (layout : Hierarchy)
+            → slice_get layouts.entry.now place ≡ Some layout
+            → IsRankedOver rule trace.entry.now k layout ranked) }
+    { *made = rank_assigned(rt, alloc, &layouts[place], trace, k, rule).ok() };
+    let threads = sides(rt, trace.len());
+    thread::for_each_mut(rt, made.as_mut_slice(), threads, &one);
+    all_made(alloc, made.as_slice())
+}
+
+/// What `rank_all` tells. The trace is read under each of these hierarchies in turn.
+fn rank_in_turn<R: Threads + Sync>(
     rt: &R,
     alloc: Global,
     layouts: &[Layout],
@@ -200,9 +288,7 @@ fn rank_assigned<R: Threads + Sync>(
 ) -> Result<Ranked, AllocError>
     requires fits { trace.now.sizes ≡ sizes_of layout.now.spaces }
     requires workers { IsWorkers k }
-    ensures { IfOk result (λ ranked. (file trace_file : List ℕ) → hierarchy_of file ≡ Ok layout.now
-        → trace_of layout.now.spaces trace_file ≡ Ok trace.now
-        → IsRanked rule trace_file k file ranked) }
+    ensures { IfOk result (IsRankedOver rule trace.now k layout.now) }
 {
     let assigned = assign_by_threads(rt, alloc, layout, trace)?;
     let case = Case {

@@ -52,6 +52,7 @@ pub fn rate_text<R: Threads + Sync, W: Write>(
 }
 
 /// The rating of the plan of the text. The hierarchy is read first, then the trace.
+#[tactic(auto, using(crate::proofs::CheckRefusals::files_refuse))]
 fn made_rating<R: Threads + Sync>(
     rt: &R,
     alloc: Global,
@@ -70,6 +71,7 @@ fn made_rating<R: Threads + Sync>(
 }
 
 /// The rating of the plan of the text for a case.
+#[tactic(auto, using(crate::proofs::CheckRefusals::plan_refuses))]
 fn rating_on<R: Threads + Sync>(
     rt: &R,
     alloc: Global,

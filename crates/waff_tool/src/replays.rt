@@ -86,7 +86,7 @@ fn made_replay_text<R: Threads + Wait + Sync>(
 }
 
 /// Reads the files, the trace only where there are few enough cells for a replay.
-#[tactic(auto, using(crate::proofs::ReplayRefusals::refuses_hierarchy, crate::proofs::ReplayRefusals::refuses_trace))]
+#[tactic(auto, using(crate::proofs::ReplayRefusals::refuses_hierarchy, crate::proofs::ReplayRefusals::refuses_cells, crate::proofs::ReplayRefusals::refuses_trace))]
 fn accept_few<R: Threads + Sync>(
     rt: &R,
     alloc: Global,

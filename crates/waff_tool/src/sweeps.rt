@@ -55,13 +55,14 @@ fn made_sweep_text<R: Threads + Sync>(
         (Refuses hierarchy.now trace.now) result }
 {
     let accepted = accept_by_threads(rt, alloc, hierarchy, trace)?;
-    let text = swept_text(alloc, &accepted.case(), workers, rule).map_err(ToolError::from);
+    let text = swept_text(rt, alloc, &accepted.case(), workers, rule).map_err(ToolError::from);
     drop(accepted);
     text
 }
 
 /// The text of a sweep of a case.
-fn swept_text(
+fn swept_text<R: Threads + Sync>(
+    rt: &R,
     alloc: Global,
     case: &Case<'_>,
     workers: &[u32],
@@ -79,7 +80,7 @@ fn swept_text(
     };
     let unlimited = figures_of(alloc, &planned, None, plan.length())?;
     least_is_lower_bound();
-    let listed = list_figures(alloc, &planned, rule, workers)?;
+    let listed = list_figures(rt, alloc, &planned, rule, workers)?;
     let text = figures_text(alloc, listed.as_slice(), &unlimited);
     drop(listed);
     drop(plan);

@@ -1,26 +1,18 @@
-use Rattle.std.proofs.Common.{◌≡◌, ◌+◌, ◌-◌, length, take, arith, sym, ◌∙◌, ap, subst}
+use Rattle.std.proofs.Common.{◌≡◌, ◌+◌, ◌-◌, take, arith, subst}
 use Rattle.std.proofs.lemmas.List.{take_all}
 use Rattle.std.proofs.lemmas.Result.{IfOk-weaker}
-use Rattle.waff_model.specs.Numbers.{IsAmongFirst}
-use Rattle.waff_limits.specs.Data.{IsMostOf, ticks_on, used_among}
+use Rattle.waff_limits.specs.Data.{IsMostOf, ticks_on}
 use Rattle.waff_limits.specs.Edges.{AreUsed, edges_of}
-use Rattle.waff_limits.proofs.EdgeLemmas.{are_small, same_used}
-use Rattle.waff_limits.proofs.Uses.{ticks_more, ticks_small}
+use Rattle.waff_limits.proofs.EdgeLemmas.{are_small}
+use Rattle.waff_limits.proofs.Uses.{ticks_small}
 use Rattle.waff_limits.proofs.data.most_used_cell.Goals as goal
 
 pub loop-n-preserved : goal.loop-n-preserved
 loop-n-preserved c =
     let n = c.loop-n.n in
-    let messages = c.args.trace.now.messages in
-    let cost = c.message.result.now.cost in
-    let before = ticks_on (take (n - 1) messages) in
     let next : n ≡ n + 1 - 1 = omega arith in
-    let number : IsAmongFirst (length messages) n = record { from = c.loop-n.auto.n; to = omega (arith, c.loop-n-test.true, c.len-n-end.ensures.count) } in
-    same_used (edges_of c.add_all.new.self) (used_among c.as_slice.result.now before cost) (ticks_on (take (n + 1 - 1) messages))
-    (λ cell.
-    let more = ticks_more messages n c.message.result.now c.in_ok-cells.cells.items number c.message.ensures.message c.in_ok-cells.ensures cell in
-    ap (λ cells. used_among cells before cost cell) c.as_slice.ensures.value ∙ sym more ∙ ap (λ k. ticks_on (take k messages) cell) next)
-    (c.in_ok-add_all.ensures before c.loop-n.invariant)
+    subst (λ k. AreUsed (edges_of c.add_message.new.edges) (ticks_on (take k c.args.trace.now.messages))) next
+    (c.in_ok-add_message.ensures c.loop-n.invariant)
 
 pub most-requires : goal.most-requires
 most-requires c =

@@ -3,8 +3,8 @@ use Rattle.waff_limits.specs.Limits.{affinity_field, cell_field, client_field, l
 use Rattle.waff_limits.proofs.LimitLemmas.{four_lines, most_used_is_cell}
 use Rattle.waff_limits.proofs.text.push_bounds.Goals as goal
 
-pub push_cell-requires : goal.push_cell-requires
-push_cell-requires c = record {
+pub push_data-requires : goal.push_data-requires
+push_data-requires c = record {
   known = most_used_is_cell c.args.layout.now.spaces c.args.unlimited.now.case.trace.now c.len-messages.ensures.trace c.requires.fits c.args.limits.now.cell c.requires.limits.cell;
 }
 
@@ -17,5 +17,5 @@ returns c =
     (limit_row (codes "data") None limits.total (ticks_of limits.cell) (cell_field c.args.layout.now.spaces limits.cell))
     (limit_row (codes "tree") None limits.total limits.path.ticks (affinity_field case.tree.now limits.path))
     (limit_row (codes "order") None limits.total limits.order (codes "-"))
-    _ _ _ _ _ (rw c.client_name.ensures at c.in_ok-push_row.ensures) c.in_ok-push_cell.ensures
+    _ _ _ _ _ (rw c.client_name.ensures at c.in_ok-push_row.ensures) c.in_ok-push_data.ensures
     (rw c.affinity_name.ensures at c.in_ok-push_row-2.ensures) c.in_ok-push_row-3.ensures

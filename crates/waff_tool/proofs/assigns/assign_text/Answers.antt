@@ -1,4 +1,4 @@
-use Rattle.std.proofs.Common.{string_bytes}
+use Rattle.std.proofs.Common.{inr, refl, string_bytes}
 use Rattle.waff_inputs.proofs.Delivering.{delivers}
 use Rattle.waff_inputs.specs.Inputs.{Refuses}
 use Rattle.waff_tool.specs.AssignText.{IsAssignText}
@@ -11,5 +11,5 @@ returns g c =
     let is = c.accept-accepted.ensures in
     delivers (λ text. string_bytes text) (λ text. IsAssignText h t text) (Refuses h t) _ _ tt
     c.made_assign_text.result c.deliver.result
-    (c.made_assign_text.ensures h t (record { accepted = is.accepted; refused = is.refused; nothing = is.nothing })) tt
+    (c.made_assign_text.ensures h t (record { accepted = is.accepted; refused = is.refused; nothing = is.nothing })) (inr (inr refl))
     c.deliver.ensures

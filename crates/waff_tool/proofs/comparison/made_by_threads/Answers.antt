@@ -1,6 +1,7 @@
 use Rattle.std.proofs.Common.{List, ℕ, string_bytes}
 use Rattle.std.proofs.lemmas.Result.{IfErr-weaker, IfOk-weaker, err_from_is_err_and}
-use Rattle.waff_inputs.specs.declared.fault.ToolError.{ToolError}
+use Rattle.waff_inputs.specs.Inputs.{IsRefusal, trace_over}
+use Rattle.waff_tool.proofs.ComparisonRefusals.{files_refuse, trace_refuses}
 use Rattle.waff_tool.specs.Comparison.{AreModels, IsCompareText, RefusesComparison}
 use Rattle.waff_tool.proofs.comparison.made_by_threads.Goals as goal
 
@@ -9,7 +10,7 @@ returns-in_err-models g c =
     let p = err_from_is_err_and c.from_residual.result c.from_residual.ensures.1 in
     rw (p.1, p.2) (record {
       made = tt;
-      refused = c.in_err-models.ensures.refused c.args.trace.now;
+      refused = files_refuse c.args.first.now c.args.second.now c.args.trace.now c.in_err-models.field-0.0 c.in_err-models.ensures.refused;
       unwritten = c.in_err-models.ensures.nothing;
     })
 
@@ -28,11 +29,7 @@ returns g c =
           (λ text. IsCompareText first second trace k (string_bytes text))
           (λ text made. made first second are)
           c.models_text_by_threads-text.ensures.made;
-      refused = IfErr-weaker c.models_text_by_threads-text.result
-          (λ (error : ToolError). (first_file second_file : List ℕ) → AreModels first_file second_file models.classical models.hierarchical
-          → RefusesComparison first_file second_file trace error)
-          (λ error. RefusesComparison first second trace error)
-          (λ error refused. refused first second are)
-          c.models_text_by_threads-text.ensures.refused;
+      refused = IfErr-weaker c.models_text_by_threads-text.result (IsRefusal (trace_over models.classical trace)) (RefusesComparison first second trace)
+          (λ error. trace_refuses first second trace models.classical models.hierarchical error are) c.models_text_by_threads-text.ensures.refused;
       unwritten = c.models_text_by_threads-text.ensures.nothing;
     }

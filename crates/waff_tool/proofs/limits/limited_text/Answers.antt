@@ -7,17 +7,17 @@ use Rattle.waff_tool.proofs.CertificateLemmas.{as_many}
 use Rattle.waff_tool.proofs.limits.limited_text.Goals as goal
 
 pub invariant_of-planned : goal.invariant_of-planned
-invariant_of-planned c = record {
+invariant_of-planned g c = record {
   version = c.in_ok-plan.ensures.version;
   timings = c.in_ok-plan.ensures.timings;
   lengths = as_many c.args.case.now.trace.now.messages _ _ c.in_ok-plan.ensures.timings c.args.case.now.lengths;
 }
 
 pub list_figures-requires-clause-least : goal.list_figures-requires-clause-least
-list_figures-requires-clause-least c = c.in_ok-plan.ensures.least
+list_figures-requires-clause-least g c κs lives = c.in_ok-plan.ensures.least
 
 pub returns : goal.returns
-returns c =
+returns g c =
     let case = c.args.case.now in
     let limits = c.in_ok-limits.limits in
     let version = c.in_ok-plan.ensures.version in

@@ -1,4 +1,4 @@
-use Rattle.std.proofs.Common.{string_bytes}
+use Rattle.std.proofs.Common.{inr, refl, string_bytes}
 use Rattle.waff_inputs.proofs.Delivering.{delivers}
 use Rattle.waff_inputs.specs.Inputs.{Refuses}
 use Rattle.waff_tool.specs.LimitsText.{IsLimitsText}
@@ -7,5 +7,5 @@ use Rattle.waff_tool.proofs.limits.limits_text.Goals as goal
 pub returns : goal.returns
 returns g c =
     delivers (λ text. string_bytes text) (λ text. IsLimitsText c.args.rule c.args.hierarchy.now c.args.trace.now c.args.workers.now text)
-    (Refuses c.args.hierarchy.now c.args.trace.now) _ _ tt c.made_limits_text.result c.deliver.result c.made_limits_text.ensures tt
+    (Refuses c.args.hierarchy.now c.args.trace.now) _ _ tt c.made_limits_text.result c.deliver.result c.made_limits_text.ensures (inr (inr refl))
     c.deliver.ensures

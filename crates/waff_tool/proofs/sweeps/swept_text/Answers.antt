@@ -10,17 +10,17 @@ use Rattle.waff_tool.proofs.CertificateLemmas.{as_many}
 use Rattle.waff_tool.proofs.sweeps.swept_text.Goals as goal
 
 pub invariant_of-planned : goal.invariant_of-planned
-invariant_of-planned c = record {
+invariant_of-planned g c = record {
   version = c.in_ok-plan.ensures.version;
   timings = c.in_ok-plan.ensures.timings;
   lengths = as_many c.args.case.now.trace.now.messages _ _ c.in_ok-plan.ensures.timings c.args.case.now.lengths;
 }
 
 pub list_figures-requires-clause-least : goal.list_figures-requires-clause-least
-list_figures-requires-clause-least c = c.in_ok-plan.ensures.least
+list_figures-requires-clause-least g c κs lives = c.in_ok-plan.ensures.least
 
 pub returns : goal.returns
-returns c =
+returns g c =
     let starts = c.in_ok-plan.plan.starts in
     let listed = c.in_ok-listed.listed.items in
     let unlimited = c.in_ok-unlimited.unlimited in

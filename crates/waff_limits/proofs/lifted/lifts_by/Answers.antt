@@ -1,7 +1,7 @@
 use Rattle.std.proofs.Common.{◌+◌, sym, subst}
 use Rattle.waff_limits.proofs.LiftedLists.{AreBefore, lift_more, no_lift_more}
-use Rattle.waff_limits.proofs.lifted.lifts.Goals as goal
-use Rattle.waff_limits.proofs.lifted.lifts.Goals.{in-Some+in_ok-push-in-Some, in-None}
+use Rattle.waff_limits.proofs.lifted.lifts_by.Goals as goal
+use Rattle.waff_limits.proofs.lifted.lifts_by.Goals.{in-Some+in_ok-push-in-Some, in-None}
 
 pub loop-n-preserved : goal.loop-n-preserved
 loop-n-preserved c =

@@ -6,7 +6,7 @@ use Rattle.waff_model.specs.Layout.{Hierarchy}
 use Rattle.waff_read.specs.Hierarchies.{hierarchy_of}
 use Rattle.waff_tool.specs.Ranks.{AreRead, IsRanked, file_at}
 use Rattle.waff_tool.proofs.RankLemmas.{first_refuted, ranked_admit, read_are, zip_at, zip_length, zip_push}
-use Rattle.waff_tool.proofs.ranks.rank_all.Goals as goal
+use Rattle.waff_tool.proofs.ranks.rank_in_turn.Goals as goal
 
 -- the file beside a hierarchy
 beside : (files : List (List ℕ)) (layouts : List Hierarchy) (i : ℕ) (layout : Hierarchy) → AreRead files layouts → i < length layouts

@@ -1,6 +1,6 @@
 use Rattle.std.proofs.Common.{◌≢◌, ◌<◌, length}
 use Rattle.waff_model.specs.Tree.{AtOrAbove}
-use Rattle.waff_limits.proofs.lifted.next_below.Given as goal
+use Rattle.waff_limits.proofs.jumps.next_below.Given as goal
 
 abbrev pub invariant-loop-parent : goal.invariant-loop-parent
 invariant-loop-parent l = record {
