@@ -5,7 +5,7 @@ In a block, a line that begins with `$ ` is a command, and the lines under it, u
 what it prints; a line `...` stands for lines that are left out. A call of waff has to be a case: the same words (but for
 `examples/`), what lays its files among the commands above it (but for what takes a file that cases share), and the output shown;
 what it prints by `>` to a file is not shown. A code span that begins with `waff: ` has to be the standard error of a case, a picture
-in SVG its standard output, and a block marked `toml` or `csv` a file that cases share.
+in SVG its standard output (of charts tests/report/run tells), and a block marked `toml` or `csv` a file that cases share.
 """
 
 import re
@@ -16,8 +16,8 @@ from transcripts import Case, cases, commands_of, pattern, read
 
 HERE = ROOT / "tests/commands"
 
-# No case can refuse memory; tests/hostile/memory does.
-NO_CASE = {"waff: Memory"}
+# No case can refuse memory, as tests/hostile/memory does, nor have a run that the check does not accept.
+NO_CASE = {"waff: Memory", "waff: Run"}
 
 
 def shows(case: Case, call: str, commands: set[str], output: list[str]) -> bool:
@@ -61,7 +61,7 @@ def faults(commands: list[str]) -> list[str]:
             if span not in told:
                 found.append(f"{name}: no case prints this: {span}")
         for picture in re.findall(r"!\[[^]]*\]\(([^)]+\.svg)\)", page):
-            if read((ROOT / name).parent / picture) not in printed:
+            if "charts/" not in picture and read((ROOT / name).parent / picture) not in printed:
                 found.append(f"{name}: no case prints this: {picture}")
         for block in re.findall(r"^```(?:toml|csv)\n(.*?)^```$", page, re.M | re.S):
             if block not in files:

@@ -8,9 +8,11 @@
 - docs/proof.md names nothing that the sources do not have, and each crate of the kit that they stand on.
 - docs/testing.md names each script, docs/architecture.md each crate with what its first lines say and what it stands on; crates.txt has
   the same words.
-- Each entry of docs/DECISIONS.md has its reason, and what it was chosen over.
+- Each entry of docs/DECISIONS.md has its reason, what it was chosen over, and a line of the index with its day, in the same order.
 - README.md names the logic that `dist/waff` was proved in.
 """
+import functools
+import itertools
 import os
 import re
 
@@ -21,6 +23,7 @@ ARCHITECTURE = ROOT / "docs" / "architecture.md"
 LINK = re.compile(r"\[((?:[^\[\]]|\[[^\[\]]*\]\([^()]*\))*)\]\(([^()\s]+)\)")
 FOLDERS = ("bench", "crates", "dist", "docs", "examples", "tests", "workloads")
 BLOCKS = {"rust": "*/src/*.rt", "antt": "*/specs/*.antt", "edit": "*/must-fail/*.edit"}
+DAY = re.compile(r"- \[(.*)\]\(#.*\), \d{4}-\d\d-\d\d")
 HEADER = ["| Layer | Crate | What it is for | Stands on |", "|---|---|---|---|"]
 
 
@@ -107,7 +110,7 @@ class Reader:
                 self.tell(part in known, where, f"no field {part} of {first} in {inside}")
         elif path.suffix == ".rt":
             text = path.read_text()
-            found = [f for f in functions_of(path.stem, text) if f.is_named(first)]
+            found = [f for f in functions_in(path) if f.is_named(first)]
             self.tell(found or first in TYPE.findall(text), where, f"no {first} in {inside}")
             for part in parts:
                 self.tell(any(part in f.clauses for f in found), where, f"no clause {part} of {first} in {inside}")
@@ -157,10 +160,21 @@ class Reader:
         for entry in entries:
             for word in ("*Because*", "*Instead of*"):
                 self.tell(word in " ".join(entry.split()), page.name, f"no {word}: {entry.splitlines()[0]}")
+        titles = [entry.splitlines()[0] for entry in entries]
+        listed = [DAY.fullmatch(line) for _, line in page.lines if line.startswith("- [")]
+        named = [line and line.group(1) for line in listed]
+        for title, name in itertools.zip_longest(titles, named):
+            self.tell(title == name, page.name, f"the index has {name} where {title} stands, or no day")
 
     def read_logic(self):
         logic = (ROOT / "dist" / "waff.sums").read_text().splitlines()[0].split()[-1]
         self.tell(f"`{logic}`" in (ROOT / "README.md").read_text(), "README.md", f"the logic {logic} is not named")
+
+
+@functools.cache
+def functions_in(path):
+    """The functions of a source."""
+    return list(functions_of(path.stem, path.read_text()))
 
 
 def is_quoted(lines, sources):
@@ -238,7 +252,8 @@ def write_crates():
 def read(crates, count):
     """Reads all pages, and counts the names and links that it finds and those that it misses."""
     reader = Reader(crates, count)
-    paths = [*ROOT.glob("*.md"), *(path for folder in FOLDERS for path in (ROOT / folder).glob("*.md"))]
+    folders = [*(ROOT / folder for folder in FOLDERS), ROOT / "docs" / "promises"]
+    paths = [*ROOT.glob("*.md"), *(path for folder in folders for path in folder.glob("*.md"))]
     pages = {page.name: page for page in map(Page, sorted(paths))}
     for page in pages.values():
         reader.read_page(page)

@@ -131,11 +131,26 @@ class Deal:
 
     def with_own(self, space: str, count: int, parent: str | None = None) -> "Deal":
         """The space has so many affinities of its own, beside those that it had, or below the one that it had, or below `parent`."""
-        name, unit = self.spaces[space]
-        group = self.groups[name]
+        deal = self.freed(space)
+        name, unit = deal.spaces[space]
+        group = deal.groups[name]
         parent = parent or (group.names[0] if group.is_inner else group.parent)
         own = Group(parent, tuple(f"{space}{n}" for n in range(count)), space, False)
-        return replace(self, groups={**self.groups, space: own}, spaces={**self.spaces, space: (space, unit)})
+        return replace(deal, groups={**deal.groups, space: own}, spaces={**deal.spaces, space: (space, unit)})
+
+    def freed(self, space: str) -> "Deal":
+        """The same tree, in which affinities of others that are named like this space are named like one of these: so that the space may
+        leave them, and have affinities of its own."""
+        stems = {self.groups[name].stem for name, _ in self.spaces.values()}
+        found = ((it, name) for it, (name, _) in self.spaces.items() if it != space and it not in stems)
+        heir, name = next(((it, name) for it, name in found if self.groups[name].stem == space), ("", ""))
+        if not heir or self.groups[name].is_inner:
+            return self
+        old = self.groups[name]
+        names: dict[str | None, str] = {it: f"{heir}{n}" for n, it in enumerate(old.names)}
+        groups = {it: replace(group, parent=names.get(group.parent, group.parent)) for it, group in self.groups.items() if it != name}
+        groups[heir] = Group(old.parent, tuple(names.values()), heir, False)
+        return replace(self, groups=groups, spaces={it: (heir if at == name else at, unit) for it, (at, unit) in self.spaces.items()})
 
     def at(self, space: str, affinity: str) -> "Deal":
         """The space has an affinity that stays, and none of its own."""
@@ -189,9 +204,10 @@ class Deal:
 
     def options(self, space: str, spaces: list[str], counts: Sequence[int]) -> Changes:
         """What a space may have in place of what it has."""
-        for place, count in itertools.product(self.places(space, spaces), counts):
-            yield told(space, count, place), self.placed(space, count, place)
-        yield from self.without_own(space, spaces)
+        deal = self.freed(space)
+        for place, count in itertools.product(deal.places(space, spaces), counts):
+            yield told(space, count, place), deal.placed(space, count, place)
+        yield from deal.without_own(space, spaces)
 
     def without_own(self, space: str, spaces: list[str]) -> Changes:
         """What a space may have in place of affinities of its own: one that stays, or those of another space."""
@@ -220,6 +236,16 @@ class Deal:
                 made = self.with_count(space, count)
                 for number in (it for it in COUNTS if it < len(two.names)):
                     yield f"{one.names[0]}: {count} of it; {two.names[0]}: {number} of it", made.with_count(other, number)
+
+    def both_units(self, spaces: list[str], units: dict[str, list[int]]) -> Changes:
+        """Other units for two spaces in the same affinities."""
+        for space, other in itertools.combinations(spaces, 2):
+            (name, unit), (also, width) = self.spaces[space], self.spaces[other]
+            if name != also or self.groups[name].is_inner:
+                continue
+            for one, two in itertools.product(units[space], units[other]):
+                if one != unit and two != width:
+                    yield f"{space}: unit {one}; {other}: unit {two}", self.with_unit(space, one).with_unit(other, two)
 
     def together(self, places: dict[str, str], count: int) -> "Deal":
         """All of these spaces have the same affinities, so many, below the place of the first one."""

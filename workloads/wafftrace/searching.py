@@ -155,9 +155,10 @@ class Search:
         self.planned(self.least())
         try:
             for cap in (it for it in CAPS if it <= most):
-                self.most = cap
-                self.steps = [it for it in [self.best_of(cap)] if it]
-                if self.steps:
+                self.most, found = cap, self.best_of(cap)
+                if found:
+                    # Other trees to begin from are made of the first one.
+                    self.steps = [steps[0], found]
                     self.improve()
         finally:
             self.steps, self.most = steps, most
@@ -179,7 +180,8 @@ class Search:
     def changes_of(self, deal: Deal, space: str | None) -> Changes:
         """What is tried for a space, or for two that stay where they are."""
         if space is None:
-            return deal.trades(self.spaces)
+            units_of_each = {it: units_of(deal.tree, it, self.longest) for it in self.spaces}
+            return itertools.chain(deal.trades(self.spaces), deal.both_units(self.spaces, units_of_each))
         units = units_of(deal.tree, space, self.longest)
         return itertools.chain(deal.changes(space, units), deal.moves(space, self.spaces, units, self.is_few()))
 
