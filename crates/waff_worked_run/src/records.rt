@@ -46,6 +46,41 @@ cost,10
 bound,26,29
 ";
 
+/// Messages 1 and 3 are issued, and begin.
+fn begin_first<R: Abort>(rt: &R, line: &mut Line<'_>) -> Result<(), RecordError> {
+    // Message 1 is issued at 0, and joins when that tick is over.
+    assert!(rt; !line.join()?);
+    line.tell(1);
+    assert!(rt; line.join()? && !line.join()?);
+    assert_eq!(rt; line.begin(1).ok(), Some(Some(1)));
+    line.tell(3);
+    assert!(rt; line.join()? && !line.join()?);
+    assert_eq!(rt; line.begin(2).ok(), Some(Some(3)));
+    Ok(())
+}
+
+/// Message 1 ends, and message 2 is issued, which waits for message 3.
+fn wait_for_third<R: Abort>(rt: &R, line: &mut Line<'_>) -> Result<(), RecordError> {
+    assert_eq!(rt; line.end(1, 6)?, Ended::Well);
+    line.tell(9);
+    assert!(rt; !line.join()?);
+    assert_eq!(rt; line.next(), 10);
+    line.tell(10);
+    assert!(rt; line.join()?);
+    assert_eq!(rt; line.begin(1).ok(), Some(None));
+    Ok(())
+}
+
+/// Message 3 ends, and message 2 begins and ends.
+fn end_all<R: Abort>(rt: &R, line: &mut Line<'_>) -> Result<(), RecordError> {
+    assert_eq!(rt; line.end(3, 12)?, Ended::Well);
+    assert_eq!(rt; line.begin(1).ok(), Some(Some(2)));
+    // It takes a tick.
+    assert_eq!(rt; line.end(2, 12)?, Ended::Well);
+    assert_eq!(rt; line.waiting(), 0);
+    Ok(())
+}
+
 /// What is told of the run by so many workers.
 fn recorded<R: Abort + Threads + Sync>(
     rt: &R,
@@ -59,26 +94,9 @@ fn recorded<R: Abort + Threads + Sync>(
         return Err(RecordError::Memory);
     };
     let mut line = Line::of(alloc, accepted.case(), 2)?;
-    // Message 1 is issued at 0, and joins when that tick is over.
-    assert!(rt; !line.join()?);
-    line.tell(1);
-    assert!(rt; line.join()? && !line.join()?);
-    assert_eq!(rt; line.begin(1).ok(), Some(Some(1)));
-    line.tell(3);
-    assert!(rt; line.join()? && !line.join()?);
-    assert_eq!(rt; line.begin(2).ok(), Some(Some(3)));
-    assert_eq!(rt; line.end(1, 6)?, Ended::Well);
-    line.tell(9);
-    assert!(rt; !line.join()?);
-    assert_eq!(rt; line.next(), 10);
-    line.tell(10);
-    assert!(rt; line.join()?);
-    assert_eq!(rt; line.begin(1).ok(), Some(None));
-    assert_eq!(rt; line.end(3, 12)?, Ended::Well);
-    assert_eq!(rt; line.begin(1).ok(), Some(Some(2)));
-    // It takes a tick.
-    assert_eq!(rt; line.end(2, 12)?, Ended::Well);
-    assert_eq!(rt; line.waiting(), 0);
+    begin_first(rt, &mut line)?;
+    wait_for_third(rt, &mut line)?;
+    end_all(rt, &mut line)?;
     record_of(
         rt,
         alloc,
