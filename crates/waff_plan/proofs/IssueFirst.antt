@@ -113,8 +113,8 @@ first_all work n first is are = record {
 }
 
 -- at first none is taken, and those that follow none are pending
-pub taken_none : (tree : List Node) (assigned : List ℕ) (work : Work) (key : Key) (start : ℕ → ℕ) → AreTaken tree assigned work key start []
-taken_none tree assigned work key start = record {
+pub taken_none : (tree : List Node) (assigned : List ℕ) (work : Work) (key : Key) (start : ℕ → ℕ) (links : List (Option ℕ)) → AreTaken tree assigned work key start [] links
+taken_none tree assigned work key start links = record {
   number = λ m there. absurd (omega (arith, there.1));
   closed = λ f m follow there. absurd (omega (arith, there.1));
   at_once = λ m there. absurd (omega (arith, there.1));

@@ -7,6 +7,7 @@ use Rattle.waff_model.specs.Tree.{Node}
 use Rattle.waff_model.specs.declared.limits.TheConstants.{MAX_COST, MAX_MESSAGES, MAX_RELEASE, MAX_THINK, MAX_TICK}
 use Rattle.waff_model.specs.declared.preorder.Span.{Span}
 use Rattle.waff_assign.specs.Order.{affinity_of}
+use Rattle.waff_plan.specs.Waits.{wait_of}
 use Rattle.waff_plan.specs.Work.{Work, IsNumber, finish_of, issue_after, issue_of}
 use Rattle.waff_plan.specs.Obeys.{FollowsEarlier, FollowsOnce}
 use Rattle.waff_plan.specs.Order.{IsServiceKey, Key}
@@ -16,6 +17,7 @@ use Rattle.waff_plan.specs.Table.{LatestTable, IsTable, IsLatestExcluding}
 use Rattle.waff_plan.specs.Timing.{IsTiming, no_timing, start_of, work_of}
 use Rattle.waff_plan.specs.declared.timing.Timing.{Timing}
 use Rattle.waff_plan.specs.declared.latest.Latest.{Latest}
+use Rattle.waff_plan.specs.declared.waits.Since.TheVariants.{Release}
 use Rattle.waff_plan.proofs.IssueFirst.{pending_first, put_cases, put_new, put_old, taken_none}
 use Rattle.waff_plan.proofs.IssueSteps.{AreTaken, ArePending, once_rest, once_put, order_finish, pending_from, rest_there, taken_more, untaken, untaken_all, untaken_less, x_there}
 use Rattle.waff_plan.proofs.Tables.{table_again}
@@ -44,8 +46,9 @@ issue_soon finish release think by None early small done = omega (arith, early)
 issue_soon finish release think by (Some f) early small done = omega (arith, early, small, done f refl)
 
 module _ (tree : List Node) (spans : List Span) (assigned : List ℕ) (work : Work) (key : Key) where
-  pub record IsGoing (starts order : List ℕ) (left : ℕ) (issues : List Issue) (latests : LatestTable) : Type 0 where
-    pub taken : AreTaken tree assigned work key (start_of starts) order
+  pub record IsGoing (starts order : List ℕ) (links : List (Option ℕ)) (left : ℕ) (issues : List Issue) (latests : LatestTable) : Type 0 where
+    pub taken : AreTaken tree assigned work key (start_of starts) order links
+    pub linked : length links ≡ work.count
     pub pending : ArePending work key (start_of starts) order issues
     pub table : IsTable spans assigned (finish_of work (start_of starts)) order latests
     pub early : (i : ℕ) → Contains order i → finish_of work (start_of starts) i ≤ late order
@@ -53,11 +56,12 @@ module _ (tree : List Node) (spans : List Span) (assigned : List ℕ) (work : Wo
     pub few : length order + left ≡ work.count
     pub enough : untaken work order ≤ left
 
-  pub going_first : (starts : List ℕ) (left : ℕ) (first : List Issue) (table : LatestTable) → length starts ≡ work.count
+  pub going_first : (starts : List ℕ) (links : List (Option ℕ)) (left : ℕ) (first : List Issue) (table : LatestTable) → length starts ≡ work.count → length links ≡ work.count
       → left ≡ work.count → AreFirst work key first
-      → IsTable spans assigned (finish_of work (start_of starts)) [] table → IsGoing starts [] left first table
-  going_first starts left first table count all are noted = record {
-    taken = taken_none tree assigned work key (start_of starts);
+      → IsTable spans assigned (finish_of work (start_of starts)) [] table → IsGoing starts [] links left first table
+  going_first starts links left first table count linked all are noted = record {
+    taken = taken_none tree assigned work key (start_of starts) links;
+    linked = linked;
     pending = pending_first work key (start_of starts) first are;
     table = noted;
     early = λ i there. absurd (omega (arith, there.1));
@@ -67,8 +71,8 @@ module _ (tree : List Node) (spans : List Span) (assigned : List ℕ) (work : Wo
   }
 
   module _ (service : IsServiceKey work key) (follows : FollowsEarlier work) (once : FollowsOnce work) (few : work.count ≤ MAX_MESSAGES) (small : IsSmall work)
-      (starts order : List ℕ) (left : ℕ) (pending rest : List Issue) (table : LatestTable) (x : Issue)
-      (going : IsGoing starts order left pending table) (takes : LeavesDue pending x rest) where
+      (starts order : List ℕ) (links : List (Option ℕ)) (left : ℕ) (pending rest : List Issue) (table : LatestTable) (x : Issue)
+      (going : IsGoing starts order links left pending table) (takes : LeavesDue pending x rest) where
     abbrev m : ℕ
     m = x.1
 
@@ -79,7 +83,7 @@ module _ (tree : List Node) (spans : List Span) (assigned : List ℕ) (work : Wo
     more = order ++ m ∷ []
 
     there : Contains pending x
-    there = x_there tree assigned work key service start start order pending rest x follows going.taken going.pending takes.rest (λ i from other. refl)
+    there = x_there tree assigned work key service start start order pending rest x follows links going.taken going.pending takes.rest (λ i from other. refl)
 
     pub m_number : IsNumber work m
     m_number = going.pending.number x there
@@ -128,7 +132,7 @@ module _ (tree : List Node) (spans : List Span) (assigned : List ℕ) (work : Wo
       same i from other = get_or-set_other starts (m - 1) (i - 1) s 0 (λ equal. other (omega (arith, equal, from, m_number.from)))
 
       finish_same : (i : ℕ) → Contains order i → finish_of work later i ≡ finish_of work start i
-      finish_same = order_finish tree assigned work key service start later order pending rest x follows going.taken going.pending takes.rest same
+      finish_same = order_finish tree assigned work key service start later order pending rest x follows links going.taken going.pending takes.rest same
 
       module _ (finish : ℕ) (finish_is : finish ≡ finish_of work later m) (table_more : LatestTable)
           (notes : (finish_at : ℕ → ℕ) → IsTable spans assigned finish_at order table → finish_at m ≡ finish → IsTable spans assigned finish_at more table_more) where
@@ -156,15 +160,22 @@ module _ (tree : List Node) (spans : List Span) (assigned : List ℕ) (work : Wo
         enough_more : untaken work more ≤ left - 1
         enough_more = omega (arith, fewer, going.enough)
 
-        taken_now : AreTaken tree assigned work key later more
+        abbrev links_more : List (Option ℕ)
+        links_more = set links (m - 1) (wait_of Release work start m latest)
+
+        linked_more : length links_more ≡ work.count
+        linked_more = length-set links (m - 1) (wait_of Release work start m latest) ∙ going.linked
+
+        taken_now : AreTaken tree assigned work key later more links_more
         taken_now =
-            taken_more tree assigned work key service start later order pending rest x follows going.taken going.pending takes.rest same s latest at_m found starts_at
+            taken_more tree assigned work key service start later order pending rest x follows links going.taken going.pending takes.rest same s latest at_m found starts_at going.linked
 
         -- no message follows the one that is taken
-        pub going_on : ((j : ℕ) → IsNumber work j → work.follows j ≡ Some m → ⊥) → IsGoing later_starts more (left - 1) rest table_more
+        pub going_on : ((j : ℕ) → IsNumber work j → work.follows j ≡ Some m → ⊥) → IsGoing later_starts more links_more (left - 1) rest table_more
         going_on none = record {
           taken = taken_now;
-          pending = pending_from tree assigned work key service start later order pending rest x follows going.taken going.pending takes.rest same s latest at_m found starts_at
+          linked = linked_more;
+          pending = pending_from tree assigned work key service start later order pending rest x follows links going.taken going.pending takes.rest same s latest at_m found starts_at
               rest takes.least (λ y at. inl at) (λ y at. at) (λ j follow number. absurd (none j number follow))
               (once_rest pending rest x takes.rest going.pending.once);
           table = noted;
@@ -175,16 +186,17 @@ module _ (tree : List Node) (spans : List Span) (assigned : List ℕ) (work : Wo
         }
           where
             rest_at : (y : Issue) → Contains rest y → Contains pending y
-            rest_at = rest_there tree assigned work key service start later order pending rest x follows going.taken going.pending takes.rest same
+            rest_at = rest_there tree assigned work key service start later order pending rest x follows links going.taken going.pending takes.rest same
 
         -- the message that follows it is issued
         pub going_next : (j issue : ℕ) (pending_more : List Issue) → IsNumber work j → work.follows j ≡ Some m → issue ≡ key later j
-            → IsPermutation ((issue, j) ∷ rest) pending_more → IsGoing later_starts more (left - 1) pending_more table_more
+            → IsPermutation ((issue, j) ∷ rest) pending_more → IsGoing later_starts more links_more (left - 1) pending_more table_more
         going_next j issue pending_more number follow issue_is put =
             let next : Issue = (issue, j) in
             record {
               taken = taken_now;
-              pending = pending_from tree assigned work key service start later order pending rest x follows going.taken going.pending takes.rest same s latest at_m found starts_at
+              linked = linked_more;
+              pending = pending_from tree assigned work key service start later order pending rest x follows links going.taken going.pending takes.rest same s latest at_m found starts_at
                   pending_more takes.least
                   (λ y at. elim (put_cases next rest pending_more put y at) [
                     | inl here ↦ inr (
@@ -208,4 +220,4 @@ module _ (tree : List Node) (spans : List Span) (assigned : List ℕ) (work : Wo
             }
           where
             rest_at : (y : Issue) → Contains rest y → Contains pending y
-            rest_at = rest_there tree assigned work key service start later order pending rest x follows going.taken going.pending takes.rest same
+            rest_at = rest_there tree assigned work key service start later order pending rest x follows links going.taken going.pending takes.rest same

@@ -1,17 +1,21 @@
 -- The unlimited plan in the order of issue, one message after another.
-use Rattle.std.proofs.Common.{◌≡◌, ◌≢◌, ℕ, zero, suc, ◌+◌, ◌<◌, ◌≤◌, ◌==◌, ◌⊎◌, inl, inr, max, Bool, true, cond, List, [], ◌∷◌, ◌++◌, count_by, sum_by, Contains, Option, Some, None, MatchOption, arith, refl, sym, ◌∙◌, ap, subst}
+use Rattle.std.proofs.Common.{◌≡◌, ◌≢◌, ℕ, zero, suc, ◌+◌, ◌-◌, ◌<◌, ◌≤◌, ◌==◌, ◌⊎◌, inl, inr, max, Bool, true, cond, List, [], ◌∷◌, ◌++◌, length, get_or, set, count_by, sum_by, Contains, Option, Some, None, MatchOption, arith, refl, sym, ◌∙◌, ap, subst}
 use Rattle.std.specs.List.{list_any}
 use Rattle.std.specs.List.Sorted.{IsPermutation}
 use Rattle.std.specs.Prelude.{nat_eq}
 use Rattle.std.proofs.lemmas.Bool.{cases_eq, cases_Bool, cond-true, cond-false, eq-eqb, ne_eqb, false_from_ne_true, eqb-true, false≢true}
 use Rattle.std.proofs.lemmas.Cmp.{nat_eq_equiv}
+use Rattle.std.proofs.lemmas.List.{get_or-set_other, get_or-set_same}
 use Rattle.std.proofs.lemmas.List.Elements.{Contains-append_left, Contains-push, Contains-push_cases}
 use Rattle.std.proofs.lemmas.List.Sorted.{Contains-permutation, sum_by-IsPermutation, IsPermutation-sym}
 use Rattle.std.proofs.lemmas.List.Sums.{sum_by-cons, get_or-le-sum_by}
 use Rattle.std.proofs.lemmas.Map.Views.{Contains-from_any, list_any-from_Contains}
 use Rattle.std.proofs.lemmas.Option.{none-some, same_Some}
 use Rattle.waff_model.specs.Tree.{Node}
-use Rattle.waff_assign.specs.Order.{affinity_of}
+use Rattle.waff_assign.specs.Order.{Relation, affinity_of}
+use Rattle.waff_plan.specs.Latest.{IsFound, later_of}
+use Rattle.waff_plan.specs.Links.{AreLinks, IsLink, followed_of, link_of}
+use Rattle.waff_plan.specs.Waits.{wait_of}
 use Rattle.waff_plan.specs.Work.{Work, IsNumber, numbers, finish_of, issue_of}
 use Rattle.waff_plan.specs.Obeys.{FollowsEarlier, IsLeast}
 use Rattle.waff_plan.specs.Order.{ComesBefore, IsServiceKey, Key, Serves}
@@ -19,23 +23,34 @@ use Rattle.waff_plan.specs.Due.{IsDueFirst}
 use Rattle.waff_plan.specs.Pending.{Issue}
 use Rattle.waff_plan.specs.Table.{IsLatestExcluding}
 use Rattle.waff_plan.specs.declared.latest.Latest.{Latest}
+use Rattle.waff_plan.specs.declared.waits.Since.TheVariants.{Release}
 use Rattle.waff_plan.proofs.Earliest.{least_from_at_once}
+use Rattle.waff_plan.proofs.Followings.{is_wait}
 use Rattle.waff_plan.proofs.Holding.{same_issue}
+use Rattle.waff_plan.proofs.Latests.{found_again, found_same}
 use Rattle.waff_plan.proofs.Orders.{serves_forward}
 use Rattle.waff_plan.proofs.Places.{keyed_not_itself, keyed_on, sum_by-range_with_len-lt, sum_of_ones}
 
--- message m, beside those that have a start, starts as soon as it may
-pub record IsAtOnce (tree : List Node) (assigned : List ℕ) (work : Work) (key : Key) (start : ℕ → ℕ) (order : List ℕ) (m : ℕ) : Type 0 where
-  pub issued : issue_of work start m ≤ start m
-  pub finished : (i : ℕ) → Contains order i → Serves tree assigned work (key start) i m → finish_of work start i ≤ start m
-  pub greatest : (tick : ℕ) → issue_of work start m ≤ tick
-      → ((i : ℕ) → Contains order i → Serves tree assigned work (key start) i m → finish_of work start i ≤ tick) → start m ≤ tick
+-- message i has a start, and is served before message m
+abbrev pub IsTakenBefore : List Node → List ℕ → Work → (ℕ → ℕ) → List ℕ → Relation
+IsTakenBefore tree assigned work key order i m = Contains order i × Serves tree assigned work key i m
 
--- the messages that have a start
-pub record AreTaken (tree : List Node) (assigned : List ℕ) (work : Work) (key : Key) (start : ℕ → ℕ) (order : List ℕ) : Type 0 where
+-- a message with this issue starts at this tick, after the latest that is before it
+abbrev pub StartsAfter : Option Latest → ℕ → ℕ → Type 0
+StartsAfter latest issue start = MatchOption latest (start ≡ issue) (λ l. start ≡ max issue l.finish)
+
+-- message m starts as soon as the latest of those that have a start and are served before it allows, and this is its link
+pub record IsAtOnce (tree : List Node) (assigned : List ℕ) (work : Work) (key : Key) (start : ℕ → ℕ) (order : List ℕ) (m : ℕ) (link : Option ℕ) : Type 0 where
+  pub latest : Option Latest
+  pub found : IsFound (λ i. IsTakenBefore tree assigned work (key start) order i m) (finish_of work start) latest
+  pub starts : StartsAfter latest (issue_of work start m) (start m)
+  pub link_is : link ≡ wait_of Release work start m latest
+
+-- the messages that have a start, with their links
+pub record AreTaken (tree : List Node) (assigned : List ℕ) (work : Work) (key : Key) (start : ℕ → ℕ) (order : List ℕ) (links : List (Option ℕ)) : Type 0 where
   pub number : (m : ℕ) → Contains order m → IsNumber work m
   pub closed : (f m : ℕ) → work.follows m ≡ Some f → Contains order m → Contains order f
-  pub at_once : (m : ℕ) → Contains order m → IsAtOnce tree assigned work key start order m
+  pub at_once : (m : ℕ) → Contains order m → IsAtOnce tree assigned work key start order m (get_or links (m - 1) None)
 
 -- the messages that are issued and have no start, with their issues
 pub record ArePending (work : Work) (key : Key) (start : ℕ → ℕ) (order : List ℕ) (pending : List Issue) : Type 0 where
@@ -90,9 +105,32 @@ serves_same tree assigned work key other i j same_i same_j served = record {
   excludes = served.excludes;
 }
 
+-- what starts after the latest that is before it starts when it is issued or that one has finished, and no later
+issued_from : (latest : Option Latest) (issue start : ℕ) → StartsAfter latest issue start → issue ≤ start
+issued_from None issue start at = omega (arith, at)
+issued_from (Some l) issue start at = omega (arith, at)
+
+finished_from : (Is : ℕ → Type 0) (finish : ℕ → ℕ) (latest : Option Latest) (issue start : ℕ) → IsFound Is finish latest → StartsAfter latest issue start → (i : ℕ) → Is i
+    → finish i ≤ start
+finished_from Is finish None issue start none at i is = absurd (none i is)
+finished_from Is finish (Some l) issue start found at i is = omega (arith, at, found.finish_is, found.number.latest i is)
+
+greatest_from : (Is : ℕ → Type 0) (finish : ℕ → ℕ) (latest : Option Latest) (issue start : ℕ) → IsFound Is finish latest → StartsAfter latest issue start → (tick : ℕ) → issue ≤ tick
+    → ((i : ℕ) → Is i → finish i ≤ tick) → start ≤ tick
+greatest_from Is finish None issue start none at tick issued finished = omega (arith, at, issued)
+greatest_from Is finish (Some l) issue start found at tick issued finished =
+    omega (arith, at, issued, found.finish_is, finished l.number found.number.one)
+
+-- the message that is followed holds back as long where it starts at the same tick
+followed_same : (work : Work) (start later : ℕ → ℕ) (m : ℕ) (follows : Option ℕ) → ((f : ℕ) → follows ≡ Some f → later f ≡ start f)
+    → followed_of work start m follows ≡ followed_of work later m follows
+followed_same work start later m None same = refl
+followed_same work start later m (Some f) same =
+    ap (λ s. followed_of work (λ i. s) m (Some f)) (sym (same f refl))
+
 -- one of the pending messages is taken: what is known of it, and what of the others
 module _ (tree : List Node) (assigned : List ℕ) (work : Work) (key : Key) (service : IsServiceKey work key) (start later : ℕ → ℕ) (order : List ℕ) (pending rest : List Issue) (x : Issue)
-    (follows : FollowsEarlier work) (taken : AreTaken tree assigned work key start order) (are : ArePending work key start order pending)
+    (follows : FollowsEarlier work) (links : List (Option ℕ)) (taken : AreTaken tree assigned work key start order links) (are : ArePending work key start order pending)
     (taken_first : IsPermutation pending (x ∷ rest)) (same : (i : ℕ) → 1 ≤ i → i ≢ x.1 → later i ≡ start i) where
   abbrev m : ℕ
   m = x.1
@@ -139,6 +177,30 @@ module _ (tree : List Node) (assigned : List ℕ) (work : Work) (key : Key) (ser
       let some = subst (λ z. counts z ≤ sum_by counts rest) there.2 (get_or-le-sum_by counts rest there.0 y there.1) in
       omega (arith, are.once m, sum_by-IsPermutation counts pending (x ∷ rest) taken_first, sum_by-cons counts x rest, one, two, some)
 
+  -- a message that has a start, or m, is behind the same messages as before
+  once_again : (j s : ℕ) (latest : Option Latest) (link : Option ℕ) → key later j ≡ key start j → (ComesBefore (key later) m j → ⊥)
+      → ((f : ℕ) → work.follows j ≡ Some f → Contains order f) → later j ≡ s → issue_of work later j ≡ issue_of work start j
+      → StartsAfter latest (issue_of work start j) s → link ≡ wait_of Release work start j latest
+      → IsFound (λ i. IsTakenBefore tree assigned work (key start) order i j) (finish_of work start) latest → IsAtOnce tree assigned work key later more j link
+  once_again j s latest link kept not_before after start_is issue_is starts link_is found = record {
+    latest = latest;
+    found = found_same (λ i. IsTakenBefore tree assigned work (key start) order i j) (λ i. IsTakenBefore tree assigned work (key later) more i j) (finish_of work later) latest
+        (λ i pair. (
+          Contains-append_left order (m ∷ []) i pair.0,
+          serves_same tree assigned work (key start) (key later) i j (sym (order_key i pair.0)) (sym kept) pair.1,
+        ))
+        (λ i pair. elim (Contains-push_cases order m i pair.0) [
+          | inl old ↦ (old, serves_same tree assigned work (key later) (key start) i j (order_key i old) kept pair.1)
+          | inr new ↦ absurd (not_before (subst (λ n. ComesBefore (key later) n j) (sym new) pair.1.precedes))
+        ])
+        (found_again (λ i. IsTakenBefore tree assigned work (key start) order i j) (finish_of work start) (finish_of work later) latest
+        (λ i pair. order_finish i pair.0) found);
+    starts = subst (λ t. StartsAfter latest (issue_of work later j) t) (sym start_is) (subst (λ i. StartsAfter latest i s) (sym issue_is) starts);
+    link_is = link_is
+        ∙ ap (λ followed. link_of (later_of latest followed) (work.floor j))
+        (followed_same work start later j (work.follows j) (λ f follow. same f (follows f j follow).from (order_other f (after f follow))));
+  }
+
   module _ (s : ℕ) (latest : Option Latest) (starts : later m ≡ s) (latest_is : IsLatestExcluding tree assigned (finish_of work start) order (affinity_of assigned m) latest)
       (starts_at : MatchOption latest (s ≡ issue_of work start m) (λ l. s ≡ max (issue_of work start m) l.finish)) where
     m_number : IsNumber work m
@@ -148,64 +210,27 @@ module _ (tree : List Node) (assigned : List ℕ) (work : Work) (key : Key) (ser
     m_key = are.issue x x_there ∙ sym (pending_key x x_there)
 
     -- message m starts as soon as it may
-    at_once_from : (latest : Option Latest) → IsLatestExcluding tree assigned (finish_of work start) order (affinity_of assigned m) latest
-        → MatchOption latest (s ≡ issue_of work start m) (λ l. s ≡ max (issue_of work start m) l.finish) → IsAtOnce tree assigned work key later more m
-    at_once_from None none at = record {
-      issued = omega (arith, starts, at, m_issue_kept);
-      finished = λ i there served. elim (Contains-push_cases order m i there) [
-        | inl old ↦ absurd (none i (old, served.excludes))
-        | inr new ↦ absurd (keyed_not_itself (key later) m (subst (λ n. ComesBefore (key later) n m) (sym new) served.precedes))
-      ];
-      greatest = λ tick issued finished. omega (arith, starts, at, m_issue_kept, issued);
-    }
-    at_once_from (Some l) found at = record {
-      issued = omega (arith, starts, at, m_issue_kept);
-      finished = λ i there served. elim (Contains-push_cases order m i there) [
-        | inl old ↦
-            let bound = found.number.latest i (old, served.excludes) in
-            omega (arith, starts, at, bound, found.finish_is, order_finish i old)
-        | inr new ↦ absurd (keyed_not_itself (key later) m (subst (λ n. ComesBefore (key later) n m) (sym new) served.precedes))
-      ];
-      greatest = λ tick issued finished.
-          let one = found.number.one in
-          let done = finished l.number (Contains-append_left order (m ∷ []) l.number one.0) (record {
-            first = taken.number l.number one.0;
-            second = m_number;
-            precedes = order_first l.number x one.0 x_there;
-            excludes = one.1;
-          }) in
-          omega (arith, starts, at, m_issue_kept, issued, done, found.finish_is, order_finish l.number one.0);
-    }
+    abbrev link : Option ℕ
+    link = wait_of Release work start m latest
 
-    m_at_once : IsAtOnce tree assigned work key later more m
-    m_at_once = at_once_from latest latest_is starts_at
+    m_at_once : IsAtOnce tree assigned work key later more m link
+    m_at_once =
+        once_again m s latest link (pending_key x x_there) (keyed_not_itself (key later) m) (λ f follow. are.after x f x_there follow) starts m_issue_kept starts_at refl
+        (found_same _ (λ i. IsTakenBefore tree assigned work (key start) order i m) (finish_of work start) latest
+        (λ i both. (both.0, record { first = taken.number i both.0; second = m_number; precedes = are.later x i x_there both.0; excludes = both.1 }))
+        (λ i pair. (pair.0, pair.1.excludes)) latest_is)
 
     -- those that had a start before started as soon as they might
-    old_at_once : (j : ℕ) → Contains order j → IsAtOnce tree assigned work key later more j
+    old_at_once : (j : ℕ) → Contains order j → IsAtOnce tree assigned work key later more j (get_or (set links (m - 1) link) (j - 1) None)
     old_at_once j at =
         let once = taken.at_once j at in
-        let same_j = same j (taken.number j at).from (order_other j at) in
-        let issue_j = order_issue j at in
-        record {
-          issued = omega (arith, once.issued, same_j, issue_j);
-          finished = λ i there served. elim (Contains-push_cases order m i there) [
-            | inl old ↦
-                let before = serves_same tree assigned work (key later) (key start) i j (order_key i old) (order_key j at) served in
-                omega (arith, once.finished i old before, same_j, order_finish i old)
-            | inr new ↦
-                absurd (keyed_not_itself (key later) m
-                (keyed_on (key later) m j m (subst (λ n. ComesBefore (key later) n j) (sym new) served.precedes) (order_first j x at x_there)))
-          ];
-          greatest = λ tick issued finished.
-              let bound = once.greatest tick (omega (arith, issued, issue_j)) (λ i old before.
-              let done = finished i (Contains-append_left order (m ∷ []) i old)
-              (serves_same tree assigned work (key start) (key later) i j (sym (order_key i old)) (sym (order_key j at)) before) in
-              omega (arith, done, order_finish i old)) in
-              omega (arith, bound, same_j);
-        }
+        let from = (taken.number j at).from in
+        let read = get_or-set_other links (m - 1) (j - 1) link None (λ one. order_other j at (omega (arith, one, from, m_number.from))) in
+        once_again j (start j) once.latest _ (order_key j at) (λ sooner. keyed_not_itself (key later) m (keyed_on (key later) m j m sooner (order_first j x at x_there)))
+        (λ f follow. taken.closed f j follow at) (same j from (order_other j at)) (order_issue j at) once.starts (read ∙ once.link_is) once.found
 
-    pub taken_more : AreTaken tree assigned work key later more
-    taken_more = record {
+    pub taken_more : length links ≡ work.count → AreTaken tree assigned work key later more (set links (m - 1) link)
+    taken_more count = record {
       number = λ j there. elim (Contains-push_cases order m j there) [
         | inl old ↦ taken.number j old
         | inr new ↦ subst (IsNumber work) new m_number
@@ -216,7 +241,10 @@ module _ (tree : List Node) (assigned : List ℕ) (work : Work) (key : Key) (ser
       ]);
       at_once = λ j there. elim (Contains-push_cases order m j there) [
         | inl old ↦ old_at_once j old
-        | inr new ↦ subst (IsAtOnce tree assigned work key later more) new m_at_once
+        | inr new ↦
+            let read = get_or-set_same links (m - 1) link None (omega (arith, m_number.from, m_number.to, count)) in
+            subst (λ n. IsAtOnce tree assigned work key later more n (get_or (set links (m - 1) link) (n - 1) None)) new
+            (subst (IsAtOnce tree assigned work key later more m) (sym read) m_at_once)
       ];
     }
 
@@ -242,7 +270,7 @@ module _ (tree : List Node) (assigned : List ℕ) (work : Work) (key : Key) (ser
       ]
 
       m_before_next : (j : ℕ) → work.follows j ≡ Some m → ComesBefore (key later) m j
-      m_before_next j follow = service.rises later m j follow m_at_once.issued
+      m_before_next j follow = service.rises later m j follow (issued_from m_at_once.latest (issue_of work later m) (later m) m_at_once.starts)
 
       later_more : (y : Issue) (i : ℕ) → Contains pending_more y → Contains more i → ComesBefore (key later) i y.1
       later_more y i there at = elim (new_in y there) [
@@ -351,20 +379,40 @@ all_taken work key start order follows are (suc n) m within number = elim (has_o
       absurd (omega (arith, due.1))
 ]
 
-pub least_from_taken : (tree : List Node) (assigned : List ℕ) (work : Work) (key : Key) → IsServiceKey work key → (start : ℕ → ℕ) (order : List ℕ)
-    → FollowsEarlier work → AreTaken tree assigned work key start order → ArePending work key start order [] → IsLeast (Serves tree assigned work (key start)) work start
-least_from_taken tree assigned work key service start order follows taken are =
-    let all = λ (m : ℕ) (number : IsNumber work m). all_taken work key start order follows are m m (omega arith) number in
-    let issued = λ (m : ℕ) (number : IsNumber work m). (taken.at_once m (all m number)).issued in
-    least_from_at_once (Serves tree assigned work (key start)) work start
-    (serves_forward tree assigned work start (key start) issued follows (service.rises start))
-    (λ m number.
-    let once = taken.at_once m (all m number) in
-    record {
-      issued = once.issued;
-      finished = λ i served. once.finished i (all i served.first) served;
-      greatest = λ tick late finished. once.greatest tick late (λ i there served. finished i served);
-    })
+-- where no message is pending, this is the least plan, and these are its links in an order that tells the same
+module _ (tree : List Node) (assigned : List ℕ) (work : Work) (key : Key) (service : IsServiceKey work key) (start : ℕ → ℕ) (order : List ℕ)
+    (follows : FollowsEarlier work) (links : List (Option ℕ)) (taken : AreTaken tree assigned work key start order links) (are : ArePending work key start order []) where
+  all : (m : ℕ) → IsNumber work m → Contains order m
+  all m number = all_taken work key start order follows are m m (omega arith) number
+
+  once_all : (m : ℕ) → IsNumber work m → IsAtOnce tree assigned work key start order m (get_or links (m - 1) None)
+  once_all m number = taken.at_once m (all m number)
+
+  pub least_from_taken : IsLeast (Serves tree assigned work (key start)) work start
+  least_from_taken =
+      let issued = λ (m : ℕ) (number : IsNumber work m).
+      let once = once_all m number in issued_from once.latest (issue_of work start m) (start m) once.starts in
+      least_from_at_once (Serves tree assigned work (key start)) work start
+      (serves_forward tree assigned work start (key start) issued follows (service.rises start))
+      (λ m number.
+      let once = once_all m number in
+      let Is = λ (i : ℕ). IsTakenBefore tree assigned work (key start) order i m in
+      record {
+        issued = issued m number;
+        finished = λ i served.
+            finished_from Is (finish_of work start) once.latest (issue_of work start m) (start m) once.found once.starts i (all i served.first, served);
+        greatest = λ tick late finished.
+            greatest_from Is (finish_of work start) once.latest (issue_of work start m) (start m) once.found once.starts tick late (λ i pair. finished i pair.1);
+      })
+
+  pub links_from_taken : (before : Relation) → ((i j : ℕ) → Serves tree assigned work (key start) i j → before i j)
+      → ((i j : ℕ) → before i j → Serves tree assigned work (key start) i j) → AreLinks before work start work.count links
+  links_from_taken before to from m one last =
+      let once = once_all m (record { from = one; to = last }) in
+      subst (IsLink before work start m) (sym once.link_is)
+      (is_wait before work start m Release once.latest
+      (found_same (λ i. IsTakenBefore tree assigned work (key start) order i m) (λ i. before i m) (finish_of work start) once.latest (λ i pair. to i m pair.1)
+      (λ i pair. let served = from i m pair in (all i served.first, served)) once.found))
 
 -- how many messages have no start
 pub untaken : Work → List ℕ → ℕ

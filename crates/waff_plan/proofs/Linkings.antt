@@ -1,20 +1,12 @@
 -- The links of a plan, one message after another, and the chain that they make from its end.
-use Rattle.std.proofs.Common.{◌≡◌, ℕ, ◌+◌, ◌-◌, ◌<◌, ◌≤◌, List, [], ◌∷◌, length, get_or, Option, Some, None, MatchOption, All, arith, subst, sym, ◌∙◌}
-use Rattle.std.proofs.lemmas.List.{get_or_default}
+use Rattle.std.proofs.Common.{ℕ, ◌+◌, ◌≤◌, List, [], ◌∷◌, length, Option, Some, None, MatchOption, All, arith}
 use Rattle.std.proofs.lemmas.List.Elements.{All-nil, All-cons}
 use Rattle.waff_assign.specs.Order.{Relation}
 use Rattle.waff_plan.specs.Work.{Work, IsNumber}
 use Rattle.waff_plan.specs.Obeys.{IsForward}
 use Rattle.waff_plan.specs.Chain.{LinksOn, IsChain, LeadsToEnd, IsPrinted}
-use Rattle.waff_plan.specs.Links.{IsLink, AreLinks}
+use Rattle.waff_plan.specs.Links.{IsLink}
 use Rattle.waff_plan.proofs.Chains.{first_is_number}
-
--- the link of a message
-pub link_there : (before : Relation) (work : Work) (start : ℕ → ℕ) (links : List (Option ℕ)) (m : ℕ) (link : Option ℕ) → length links ≡ work.count
-    → IsNumber work m → link ≡ get_or links (m - 1) link → AreLinks before work start work.count links → IsLink before work start m link
-link_there before work start links m link count number is are =
-    let within : m - 1 < length links = omega (arith, number.from, number.to, count) in
-    subst (IsLink before work start m) (sym (is ∙ get_or_default links (m - 1) link None within)) (are m number.from number.to)
 
 -- where the walk from the end stands: at a message that leads to the end, or at the whole chain
 abbrev pub IsWalked : Relation → Work → (ℕ → ℕ) → Option ℕ → List ℕ → Type 0

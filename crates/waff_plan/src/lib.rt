@@ -10,8 +10,8 @@
 //! block is one entry for it. The latest message of all is looked at first, since on a path it
 //! excludes every other.
 //! - `timing`, `timetable`: costs and releases; plans.
-//! - `unlimited`: the unlimited plan. It takes messages in `turns`: by number, or where they are of
-//!   clients by issue, over `followers` and `due`.
+//! - `unlimited`: the unlimited plan, and its links. It takes messages in `turns`: by number, or
+//!   where they are of clients by issue, over `followers` and `due`.
 //! - `table`, over `last`: the latest message that excludes another, by spans in preorder.
 //! - `printed`, over `links` and `linked`: the printed chain; `waited`: what messages waited for; both
 //!   over `waits`; `totals`: what the summary of a plan tells.

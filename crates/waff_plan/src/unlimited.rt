@@ -2,6 +2,7 @@
 //! messages that exclude it and are served before it.
 
 ghost use Rattle.std.specs.Prelude.{◌≡◌, ◌<◌, max, length, All, IfOk, MatchOption};
+ghost use Rattle.waff_plan.specs.Links.{AreLinks};
 ghost use Rattle.waff_plan.specs.Obeys.{IsLeast};
 ghost use Rattle.waff_plan.specs.Serving.{served_in, started_in};
 ghost use Rattle.waff_plan.specs.Timetable.{timings_of, work_in, starts_in};
@@ -11,6 +12,7 @@ use crate::followers::followers;
 use crate::latest::Latest;
 use crate::table::Table;
 use crate::turns::first_turns;
+use crate::waits::{Since, wait};
 use std::alloc::{AllocError, Global};
 use waff_assign::Assigned;
 use waff_model::{Trace, Tree};
@@ -34,16 +36,44 @@ pub fn plan(
     ensures started { IfOk result (λ plan. IsLeast (started_in tree.now assigned.now plan)
         (work_in plan) (starts_in plan)) }
 {
+    let (plan, _links) = linked_plan(alloc, tree, assigned, trace)?;
+    Ok(plan)
+}
+
+/// The same plan with its links, which the same walk finds: what a message waited for is known when it
+/// has its turn.
+pub fn linked_plan(
+    alloc: Global,
+    tree: &Tree,
+    assigned: &Assigned,
+    trace: &Trace,
+) -> Result<(Plan, Vec<Option<u32>>), AllocError>
+    requires lengths { length trace.now.messages ≡ length assigned.now }
+    requires known { All (λ a. a < length tree.now) assigned.now }
+    ensures version { IfOk result (λ made. made.0.version ≡ trace.now.version) }
+    ensures timings { IfOk result (λ made. made.0.timings ≡ timings_of trace.now.messages) }
+    ensures lengths { IfOk result (λ made. length made.0.timings ≡ length assigned.now) }
+    ensures least { IfOk result (λ made. IsLeast (served_in tree.now assigned.now made.0)
+        (work_in made.0) (starts_in made.0)) }
+    ensures started { IfOk result (λ made. IsLeast (started_in tree.now assigned.now made.0)
+        (work_in made.0) (starts_in made.0)) }
+    ensures count { IfOk result (λ made. length made.1.items ≡ length made.0.timings) }
+    ensures links { IfOk result (λ made. AreLinks (started_in tree.now assigned.now made.0)
+        (work_in made.0) (starts_in made.0) (length made.0.timings) made.1.items) }
+{
     let mut plan = Plan::unstarted(alloc, trace)?;
     let mut left = plan.len();
     let followers = followers(alloc, plan.timings())?;
     let mut turns = first_turns(alloc, &plan)?;
     let mut table = Table::new(alloc, tree.len() as usize)?;
+    let mut links = vec![in alloc; None; plan.len() as usize]?;
     let spans = tree.spans();
     while let Some((_, m)) = turns.take() {
         left -= 1;
         let span = spans[assigned.of(m).0 as usize];
-        let start = start_at(plan.issue(m), table.latest(span));
+        let latest = table.latest(span);
+        links[m as usize - 1] = wait(&plan, m, latest, Since::Release);
+        let start = start_at(plan.issue(m), latest);
         plan.set_start(m, start);
         let finish = plan.finish(m);
         table.note(span, Latest { finish, number: m });
@@ -52,7 +82,7 @@ pub fn plan(
             turns.put(plan.issue(follower), follower)?;
         }
     }
-    Ok(plan)
+    Ok((plan, links))
 }
 
 /// The start of a message that is issued at this tick, after the latest message that excludes it.

@@ -60,7 +60,7 @@ pub(crate) fn waits(
 }
 
 /// What message `m` waited for, where this is the latest of those before it that exclude it.
-fn wait(plan: &Plan, m: u32, latest: Option<Latest>, since: Since) -> Option<u32>
+pub(crate) fn wait(plan: &Plan, m: u32, latest: Option<Latest>, since: Since) -> Option<u32>
     requires number { IsNumber (work_in plan.now) m }
     ensures { result ≡ wait_of since (work_in plan.now) (starts_in plan.now) m latest }
 {

@@ -13,8 +13,8 @@ ghost use Rattle.waff_tool.specs.Certificates.{IsBounded, IsCertified};
 use std::alloc::{AllocError, Global};
 use waff_assign::Case;
 use waff_list::{Rule, WorkerPlan, list_plan_of};
-use waff_plan::printed::chain;
-use waff_plan::unlimited::plan;
+use waff_plan::printed::{chain, linked_chain};
+use waff_plan::unlimited::linked_plan;
 use waff_plan::{Chain, Plan};
 
 /// An unlimited plan, with its printed chain.
@@ -41,9 +41,10 @@ pub fn certified_plan(alloc: Global, case: &Case<'_>) -> Result<Certified, Alloc
     ensures certified { IfOk result (λ found. IsCertified (instance_of case.now)
         (start_of found.plan.starts) found.chain.messages) }
 {
-    let plan = plan(alloc, case.tree, case.assigned, case.trace)?;
+    let made = linked_plan(alloc, case.tree, case.assigned, case.trace)?;
+    let (plan, links) = made;
     let _messages = plan.len();
-    let chain = chain(alloc, case.tree, case.assigned, &plan)?;
+    let chain = linked_chain(alloc, case.tree, case.assigned, &plan, links.as_slice())?;
     Ok(Certified { plan, chain })
 }
 

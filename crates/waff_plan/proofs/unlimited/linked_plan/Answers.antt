@@ -9,10 +9,11 @@ use Rattle.waff_model.specs.declared.limits.TheConstants.{MAX_MESSAGES}
 use Rattle.waff_model.specs.declared.message.Version.{Version}
 use Rattle.waff_model.specs.declared.preorder.Span.{Span}
 use Rattle.waff_assign.specs.Order.{affinity_of}
+use Rattle.waff_plan.specs.Links.{AreLinks}
 use Rattle.waff_plan.specs.Obeys.{IsLeast}
 use Rattle.waff_plan.specs.Order.{IsServiceKey, Key, Serves, key_of}
 use Rattle.waff_plan.specs.Pending.{AreFollowers, Issue, IsFollower}
-use Rattle.waff_plan.specs.Serving.{served_before}
+use Rattle.waff_plan.specs.Serving.{served_before, started_in}
 use Rattle.waff_plan.specs.Table.{IsLatestExcluding, IsLatestMeeting, IsTable}
 use Rattle.waff_plan.specs.Timetable.{AreTimings, Timetable, starts_in, with_start, work_in}
 use Rattle.waff_plan.specs.Timing.{start_of, work_of}
@@ -21,15 +22,15 @@ use Rattle.waff_plan.specs.Work.{Work, IsNumber, finish_of, issue_of}
 use Rattle.waff_plan.specs.declared.latest.Latest.{Latest}
 use Rattle.waff_plan.specs.declared.timing.Timing.{Timing}
 use Rattle.waff_plan.proofs.IssueLoop.{IsSmall, going_first, going_next, going_on, m_number, small_work, some_left, start_printable}
-use Rattle.waff_plan.proofs.IssueSteps.{ArePending, AreTaken, least_from_taken}
+use Rattle.waff_plan.proofs.IssueSteps.{ArePending, AreTaken, least_from_taken, links_from_taken}
 use Rattle.waff_plan.proofs.Orders.{served_by_key, service_key}
-use Rattle.waff_plan.proofs.ServingLemmas.{least_started}
+use Rattle.waff_plan.proofs.ServingLemmas.{least_started, served_to_started, started_to_served}
 use Rattle.waff_plan.proofs.StartOrder.{least_again}
 use Rattle.waff_plan.proofs.Tables.{found_noted_at}
 use Rattle.waff_plan.proofs.TimingLemmas.{length-timings_of}
 use Rattle.waff_plan.proofs.TurnLemmas.{has_followed, key_is_issue}
-use Rattle.waff_plan.proofs.unlimited.plan.Goals as goal
-use Rattle.waff_plan.proofs.unlimited.plan.Goals.{In-Some}
+use Rattle.waff_plan.proofs.unlimited.linked_plan.Goals as goal
+use Rattle.waff_plan.proofs.unlimited.linked_plan.Goals.{In-Some}
 
 -- the timings of the last plan are those of the first
 are_last : (first last : Timetable) → AreTimings first.version first.timings → first.version ≡ last.version → first.timings ≡ last.timings → AreTimings last.version last.timings
@@ -74,13 +75,13 @@ small c = small_work c.loop-m.plan.timings (are c).small
 number : (c : In-Some) → IsNumber (work_now c) c.in-Some.m
 number c =
     m_number c.args.tree.now c.spans-spans.result.now c.args.assigned.now (work_now c) (key_now c) (service c) (are c).earlier (are c).once
-    (few c) (small c) (starts_now c) (order_now c) c.loop-m.left (turns_in c.loop-m.turns) (turns_in c.take.new.self) c.loop-m.table (taken c)
+    (few c) (small c) (starts_now c) (order_now c) c.loop-m.links.items c.loop-m.left (turns_in c.loop-m.turns) (turns_in c.take.new.self) c.loop-m.table (taken c)
     c.loop-m.invariant.going c.in-Some.ensures.taken
 
 left : (c : In-Some) → 1 ≤ c.loop-m.left
 left c =
     some_left c.args.tree.now c.spans-spans.result.now c.args.assigned.now (work_now c) (key_now c) (service c) (are c).earlier (are c).once
-    (few c) (small c) (starts_now c) (order_now c) c.loop-m.left (turns_in c.loop-m.turns) (turns_in c.take.new.self) c.loop-m.table (taken c)
+    (few c) (small c) (starts_now c) (order_now c) c.loop-m.links.items c.loop-m.left (turns_in c.loop-m.turns) (turns_in c.take.new.self) c.loop-m.table (taken c)
     c.loop-m.invariant.going c.in-Some.ensures.taken
 
 among : (c : In-Some) → IsAmongFirst (length c.args.assigned.now) c.in-Some.m
@@ -147,7 +148,8 @@ loop-m-init c =
     record {
       order = [];
       going = going_first c.args.tree.now c.spans-spans.result.now c.args.assigned.now (work_in plan) (key_of plan.version (work_in plan)) plan.starts
-          c.len-left.result (turns_in c.in_ok-turns.turns) c.in_ok-table.table c.len-left.ensures.table.lengths c.len-left.ensures.count
+          c.in_ok-links.links.items c.len-left.result (turns_in c.in_ok-turns.turns) c.in_ok-table.table c.len-left.ensures.table.lengths
+          (omega (arith, c.in_ok-links.ensures.len, c.in_ok-links.links.ok.0, c.len-2.ensures.count)) c.len-left.ensures.count
           c.in_ok-turns.ensures.first (c.in_ok-table.ensures.table c.spans-spans.result.now c.args.assigned.now _);
       version = c.in_ok-plan.ensures.version;
       timings = c.in_ok-plan.ensures.timings;
@@ -167,11 +169,19 @@ bounds-spans-of c = rw (c.of.ensures, c.spans-spans.ensures.count) (affinity_wit
 pub issue-requires : goal.issue-requires
 issue-requires c = record { number = number (goal.at.issue-requires c).In-Some }
 
-pub latest-requires-clause-forward : goal.latest-requires-clause-forward
-latest-requires-clause-forward c = forward (goal.at.latest-requires-clause-forward c).In-Some c.of.result.0 c.of.ensures
+pub latest-latest-requires-clause-forward : goal.latest-latest-requires-clause-forward
+latest-latest-requires-clause-forward c = forward (goal.at.latest-latest-requires-clause-forward c).In-Some c.of.result.0 c.of.ensures
 
-pub latest-requires-clause-within : goal.latest-requires-clause-within
-latest-requires-clause-within c = inside (goal.at.latest-requires-clause-within c).In-Some c.of.result.0 c.of.ensures
+pub latest-latest-requires-clause-within : goal.latest-latest-requires-clause-within
+latest-latest-requires-clause-within c = inside (goal.at.latest-latest-requires-clause-within c).In-Some c.of.result.0 c.of.ensures
+
+pub wait-requires : goal.wait-requires
+wait-requires c = record { number = number (goal.at.wait-requires c).In-Some }
+
+pub index_mut-requires : goal.index_mut-requires
+index_mut-requires c =
+    let f = (goal.at.index_mut-requires c).In-Some in
+    let known = number f in omega (arith, known.from, known.to, f.loop-m.invariant.going.linked)
 
 pub set_start-requires : goal.set_start-requires
 set_start-requires c =
@@ -179,10 +189,10 @@ set_start-requires c =
     record {
       number = number f;
       printable = start_printable c.args.tree.now c.spans-spans.result.now c.args.assigned.now (work_now f) (key_now f) (service f) (are f).earlier (are f).once
-          (few f) (small f) (starts_now f) (order_now f) c.loop-m.left (turns_in c.loop-m.turns) (turns_in c.take.new.self) c.loop-m.table (taken f)
-          c.loop-m.invariant.going c.in-Some.ensures.taken c.start_at-start.result c.latest.result
-          (waited_for f c.of.result.0 c.latest.result c.of.ensures c.latest.ensures)
-          (starts_at f c.start_at-start.result c.issue.result c.latest.result c.issue.ensures.issue c.start_at-start.ensures);
+          (few f) (small f) (starts_now f) (order_now f) c.loop-m.links.items c.loop-m.left (turns_in c.loop-m.turns) (turns_in c.take.new.self) c.loop-m.table (taken f)
+          c.loop-m.invariant.going c.in-Some.ensures.taken c.start_at-start.result c.latest-latest.result
+          (waited_for f c.of.result.0 c.latest-latest.result c.of.ensures c.latest-latest.ensures)
+          (starts_at f c.start_at-start.result c.issue.result c.latest-latest.result c.issue.ensures.issue c.start_at-start.ensures);
     }
 
 pub finish-finish-requires : goal.finish-finish-requires
@@ -202,6 +212,9 @@ note-requires-clause-few c =
 pub overflow_sub-m : goal.overflow_sub-m
 overflow_sub-m c = (number (goal.at.overflow_sub-m c).In-Some).from
 
+pub overflow_sub-m-in-Some : goal.overflow_sub-m-in-Some
+overflow_sub-m-in-Some c = (number (goal.at.overflow_sub-m-in-Some c).In-Some).from
+
 pub index-follower-requires : goal.index-follower-requires
 index-follower-requires c =
     let f = (goal.at.index-follower-requires c).In-Some in
@@ -220,12 +233,12 @@ put-requires c =
     let j = c.index-follower.result.now in
     record { by_issue = c.in-Some.ensures.kept ∙ c.loop-m.invariant.by ∙ clients f j ((follower f j c.index-follower.ensures).follows c.if-follower-ne0.true) }
 
-pub loop-m-smaller-in-Continue-branch-5 : goal.loop-m-smaller-in-Continue-branch-5
-loop-m-smaller-in-Continue-branch-5 c = omega (arith, left (goal.at.loop-m-smaller-in-Continue-branch-5 c).In-Some)
+pub loop-m-smaller-in-Continue-branch-6 : goal.loop-m-smaller-in-Continue-branch-6
+loop-m-smaller-in-Continue-branch-6 c = omega (arith, left (goal.at.loop-m-smaller-in-Continue-branch-6 c).In-Some)
 
-pub loop-m-preserved-in-Continue-branch-5 : goal.loop-m-preserved-in-Continue-branch-5
-loop-m-preserved-in-Continue-branch-5 c =
-    let f = (goal.at.loop-m-preserved-in-Continue-branch-5 c).In-Some in
+pub loop-m-preserved-in-Continue-branch-6 : goal.loop-m-preserved-in-Continue-branch-6
+loop-m-preserved-in-Continue-branch-6 c =
+    let f = (goal.at.loop-m-preserved-in-Continue-branch-6 c).In-Some in
     let spans = c.spans-spans.result.now in
     let j = c.index-follower.result.now in
     let s = c.start_at-start.result in
@@ -235,13 +248,13 @@ loop-m-preserved-in-Continue-branch-5 c =
     = c.finish-finish.ensures.finish ∙ ap (λ (p : Timetable). finish_of (work_in p) (starts_in p) c.in-Some.m) c.set_start.ensures in
     let issue_is : c.issue-then-follower-ne0.result ≡ issue_of (work_in placed) (starts_in placed) j
     = c.issue-then-follower-ne0.ensures.issue ∙ ap (λ (p : Timetable). issue_of (work_in p) (starts_in p) j) c.set_start.ensures in
-    rw c.set_start.ensures (record {
+    rw (c.set_start.ensures, c.wait.ensures) (record {
       order = order_now f ++ c.in-Some.m ∷ [];
       going = going_next c.args.tree.now spans c.args.assigned.now (work_now f) (key_now f) (service f) (are f).earlier (are f).once
-          (few f) (small f) (starts_now f) (order_now f) c.loop-m.left (turns_in c.loop-m.turns) (turns_in c.take.new.self) c.loop-m.table (taken f)
-          c.loop-m.invariant.going c.in-Some.ensures.taken s c.latest.result
-          (waited_for f c.of.result.0 c.latest.result c.of.ensures c.latest.ensures)
-          (starts_at f s c.issue.result c.latest.result c.issue.ensures.issue c.start_at-start.ensures)
+          (few f) (small f) (starts_now f) (order_now f) c.loop-m.links.items c.loop-m.left (turns_in c.loop-m.turns) (turns_in c.take.new.self) c.loop-m.table (taken f)
+          c.loop-m.invariant.going c.in-Some.ensures.taken s c.latest-latest.result
+          (waited_for f c.of.result.0 c.latest-latest.result c.of.ensures c.latest-latest.ensures)
+          (starts_at f s c.issue.result c.latest-latest.result c.issue.ensures.issue c.start_at-start.ensures)
           c.finish-finish.result finish_is c.note.new.self
           (λ finish_at noted at. c.note.ensures.table spans c.args.assigned.now finish_at (order_now f) noted (ap (span_at spans) (sym c.of.ensures)) at)
           j c.issue-then-follower-ne0.result (turns_in c.put.new.self) (follower_number f j follow) follow
@@ -265,13 +278,13 @@ loop-m-preserved c =
     let placed = with_start c.loop-m.plan c.in-Some.m s in
     let finish_is : c.finish-finish.result ≡ finish_of (work_in placed) (starts_in placed) c.in-Some.m
     = c.finish-finish.ensures.finish ∙ ap (λ (p : Timetable). finish_of (work_in p) (starts_in p) c.in-Some.m) c.set_start.ensures in
-    rw c.set_start.ensures (record {
+    rw (c.set_start.ensures, c.wait.ensures) (record {
       order = order_now f ++ c.in-Some.m ∷ [];
       going = going_on c.args.tree.now spans c.args.assigned.now (work_now f) (key_now f) (service f) (are f).earlier (are f).once
-          (few f) (small f) (starts_now f) (order_now f) c.loop-m.left (turns_in c.loop-m.turns) (turns_in c.take.new.self) c.loop-m.table (taken f)
-          c.loop-m.invariant.going c.in-Some.ensures.taken s c.latest.result
-          (waited_for f c.of.result.0 c.latest.result c.of.ensures c.latest.ensures)
-          (starts_at f s c.issue.result c.latest.result c.issue.ensures.issue c.start_at-start.ensures)
+          (few f) (small f) (starts_now f) (order_now f) c.loop-m.links.items c.loop-m.left (turns_in c.loop-m.turns) (turns_in c.take.new.self) c.loop-m.table (taken f)
+          c.loop-m.invariant.going c.in-Some.ensures.taken s c.latest-latest.result
+          (waited_for f c.of.result.0 c.latest-latest.result c.of.ensures c.latest-latest.ensures)
+          (starts_at f s c.issue.result c.latest-latest.result c.issue.ensures.issue c.start_at-start.ensures)
           c.finish-finish.result finish_is c.note.new.self
           (λ finish_at noted at. c.note.ensures.table spans c.args.assigned.now finish_at (order_now f) noted (ap (span_at spans) (sym c.of.ensures)) at)
           (λ n known follow. omega (arith, is.all n known follow, known.from, c.if-follower-ne0.false));
@@ -306,13 +319,27 @@ returns-clause-lengths c = ap length c.loop-m.invariant.timings ∙ length-timin
 
 -- a plan of which no message is left is least
 all_least : (tree : List Node) (assigned : List ℕ) (plan : Timetable) → AreTimings plan.version plan.timings → length plan.timings ≡ length assigned
-    → (order : List ℕ) → AreTaken tree assigned (work_in plan) (key_of plan.version (work_in plan)) (starts_in plan) order
+    → (order : List ℕ) (links : List (Option ℕ)) → AreTaken tree assigned (work_in plan) (key_of plan.version (work_in plan)) (starts_in plan) order links
     → ArePending (work_in plan) (key_of plan.version (work_in plan)) (starts_in plan) order []
     → IsLeast (served_before plan.version tree assigned (work_in plan) (starts_in plan)) (work_in plan) (starts_in plan)
-all_least tree assigned plan are same order taken pending =
+all_least tree assigned plan are same order links taken pending =
     let work = work_in plan in
     least_served tree assigned work (sym same) plan.version (starts_in plan)
-    (least_from_taken tree assigned work (key_of plan.version work) (service_key plan.version work are.earlier) (starts_in plan) order are.earlier taken pending)
+    (least_from_taken tree assigned work (key_of plan.version work) (service_key plan.version work are.earlier) (starts_in plan) order are.earlier links taken pending)
+
+-- its links are those that were found
+all_links : (tree : List Node) (assigned : List ℕ) (plan : Timetable) → AreTimings plan.version plan.timings → length plan.timings ≡ length assigned
+    → (order : List ℕ) (links : List (Option ℕ)) → AreTaken tree assigned (work_in plan) (key_of plan.version (work_in plan)) (starts_in plan) order links
+    → ArePending (work_in plan) (key_of plan.version (work_in plan)) (starts_in plan) order []
+    → AreLinks (started_in tree assigned plan) (work_in plan) (starts_in plan) (length plan.timings) links
+all_links tree assigned plan are same order links taken pending =
+    let work = work_in plan in
+    let start = starts_in plan in
+    let obeys = (all_least tree assigned plan are same order links taken pending).obeys in
+    links_from_taken tree assigned work (key_of plan.version work) (service_key plan.version work are.earlier) start order are.earlier links taken pending
+    (started_in tree assigned plan)
+    (λ i j served. served_to_started tree assigned plan.timings start same plan.version are obeys i j ((served_by_key tree assigned work (sym same) plan.version start i j).0 served))
+    (λ i j pair. (served_by_key tree assigned work (sym same) plan.version start i j).1 (started_to_served tree assigned plan.timings start same plan.version are obeys i j pair))
 
 pub returns-clause-least : goal.returns-clause-least
 returns-clause-least c =
@@ -321,7 +348,7 @@ returns-clause-least c =
     let work = work_in plan in
     all_least c.args.tree.now c.args.assigned.now plan
     (are_last c.in_ok-plan.plan plan c.len-left.ensures.table.timings (c.in_ok-plan.ensures.version ∙ sym h.version) (c.in_ok-plan.ensures.timings ∙ sym h.timings))
-    (ap length h.timings ∙ length-timings_of c.args.trace.now.messages ∙ c.requires.lengths) h.order h.going.taken
+    (ap length h.timings ∙ length-timings_of c.args.trace.now.messages ∙ c.requires.lengths) h.order c.loop-m.links.items h.going.taken
     (subst (λ (xs : List Issue). ArePending work (key_of plan.version work) (starts_in plan) h.order xs) c.in_default.ensures.taken h.going.pending)
 
 pub returns-clause-started : goal.returns-clause-started
@@ -332,5 +359,18 @@ returns-clause-started c =
     let same = ap length h.timings ∙ length-timings_of c.args.trace.now.messages ∙ c.requires.lengths in
     let are = are_last c.in_ok-plan.plan plan c.len-left.ensures.table.timings (c.in_ok-plan.ensures.version ∙ sym h.version) (c.in_ok-plan.ensures.timings ∙ sym h.timings) in
     least_started c.args.tree.now c.args.assigned.now plan.timings (starts_in plan) same plan.version are
-    (all_least c.args.tree.now c.args.assigned.now plan are same h.order h.going.taken
+    (all_least c.args.tree.now c.args.assigned.now plan are same h.order c.loop-m.links.items h.going.taken
     (subst (λ (xs : List Issue). ArePending work (key_of plan.version work) (starts_in plan) h.order xs) c.in_default.ensures.taken h.going.pending))
+
+pub returns-clause-count : goal.returns-clause-count
+returns-clause-count c = c.loop-m.invariant.going.linked
+
+pub returns-clause-links : goal.returns-clause-links
+returns-clause-links c =
+    let plan = c.loop-m.plan in
+    let h = c.loop-m.invariant in
+    let work = work_in plan in
+    let same = ap length h.timings ∙ length-timings_of c.args.trace.now.messages ∙ c.requires.lengths in
+    let are = are_last c.in_ok-plan.plan plan c.len-left.ensures.table.timings (c.in_ok-plan.ensures.version ∙ sym h.version) (c.in_ok-plan.ensures.timings ∙ sym h.timings) in
+    all_links c.args.tree.now c.args.assigned.now plan are same h.order c.loop-m.links.items h.going.taken
+    (subst (λ (xs : List Issue). ArePending work (key_of plan.version work) (starts_in plan) h.order xs) c.in_default.ensures.taken h.going.pending)

@@ -9,7 +9,7 @@ use Rattle.waff_plan.specs.Timetable.{IsTimetable, Timetable, work_in, starts_in
 use Rattle.waff_plan.proofs.Chains.{printed_is_chain, printed_is_as_long}
 use Rattle.waff_plan.proofs.ServingLemmas.{started_forward}
 use Rattle.waff_plan.proofs.Linkings.{chain_is_numbers, chain_is_few}
-use Rattle.waff_plan.proofs.printed.chain.Goals as goal
+use Rattle.waff_plan.proofs.printed.linked_chain.Goals as goal
 
 -- a printed chain is a chain
 chain_from : (tree : List Node) (assigned : List ℕ) (plan : Timetable) (messages : List ℕ) → (plan.version ≡ V3 → Obeys (served_in tree assigned plan) (work_in plan) (starts_in plan)) → IsTimetable plan → length plan.timings ≡ length assigned
