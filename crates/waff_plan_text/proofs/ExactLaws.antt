@@ -16,7 +16,7 @@ use Rattle.waff_plan_text.specs.Refusals.{at_record}
 use Rattle.waff_plan_text.specs.Refused.{HasSmallNumbers, HoldsOf, IsRowOf, number_behind, refusal_of, summary_in}
 use Rattle.waff_plan_text.specs.Rows.{Slots, row_of, slot_of}
 use Rattle.waff_plan_text.specs.SpelledSummaries.{AreTexts}
-use Rattle.waff_plan_text.specs.Summaries.{begins_summary, summary_of}
+use Rattle.waff_plan_text.specs.Summaries.{begins_summary, summary_of, with_lines}
 use Rattle.waff_plan_text.specs.declared.refusal.PlanTextError.{PlanTextError}
 use Rattle.waff_plan_text.specs.declared.refusal.PlanTextError.TheVariants as error
 use Rattle.waff_plan_text.specs.declared.refusal.Refusal.{Refusal}
@@ -241,7 +241,7 @@ module _ (version : Version) (messages : ℕ) (rows : List Record) where
         }
 
 summary_none_refused : (version : Version) (messages at : ℕ) (summary : SummaryLines) → summary_of version messages at [] ≡ Ok summary → ⊥
-unfolding summary_of
+unfolding with_lines
 summary_none_refused version messages at summary h = absurd (cc)
 
 -- records that are a plan are read as it

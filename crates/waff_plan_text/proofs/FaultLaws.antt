@@ -11,25 +11,27 @@ use Rattle.waff_parse.specs.Rows.{Record, is_text, records_of}
 use Rattle.waff_plan_text.specs.Given.{Given, SummaryLines}
 use Rattle.waff_plan_text.specs.PlanTexts.{header_of, plan_after, plan_of_end, plan_of_records, plan_of_rows, plan_of_summary, put, rows_in}
 use Rattle.waff_plan_text.specs.Refusals.{at_record}
-use Rattle.waff_plan_text.specs.Refused.{FirstFaultDecides, HasRow, HasSmallNumbers, HasFault, HoldsAtEnd, HoldsOf, IsFirstFault, IsMissing, IsNotLine, IsRefusedPlan, IsRowOf, IsTooLargeLine, IsTooLargeRow, Line, lines_of, next_of, number, number_behind, refusal_of, summary_in}
+use Rattle.waff_plan_text.specs.Refused.{FirstFaultDecides, HasRow, HasSmallNumbers, HasFault, HoldsAtEnd, HoldsOf, IsFirstFault, IsMissing, IsNotLine, IsRefusedPlan, IsRowOf, IsTooLargeLine, IsTooLargeRow, next_of, number, number_behind, refusal_of, refused, summary_in}
 use Rattle.waff_plan_text.specs.Rows.{Slots, row_of, slot_of}
-use Rattle.waff_plan_text.specs.Summaries.{begins_summary, summary_of}
+use Rattle.waff_plan_text.specs.Summaries.{begins_summary, no_summary, summary_of}
+use Rattle.waff_plan_text.specs.Table.{lines_of}
 use Rattle.waff_plan_text.specs.declared.refusal.PlanTextError.{PlanTextError}
 use Rattle.waff_plan_text.specs.declared.refusal.PlanTextError.TheVariants as error
 use Rattle.waff_plan_text.specs.declared.refusal.Refusal.{Refusal}
 use Rattle.waff_plan_text.specs.declared.refusal.Refusal.TheVariants as refusal
 use Rattle.waff_plan_text.specs.declared.row.NumberedRow.{NumberedRow}
 use Rattle.waff_plan_text.specs.declared.row.Row.{Row}
+use Rattle.waff_plan_text.specs.declared.table.Line.{Line}
 use Rattle.waff_plan_text.proofs.KeptLaws.{Kept, RowsAre, kept_put, kept_start, rows_are, slot_filled}
 use Rattle.waff_plan_text.proofs.PlaceLaws.{at_end, is_at, summary_more, summary_none}
 use Rattle.waff_plan_text.proofs.RowLaws.{ReadAs, RefusedAs, one_message, one_row, row_read, row_within}
-use Rattle.waff_plan_text.proofs.SummaryLaws.{LineOnly, LinesOnly, lines_only, lines_refusal, ok_last, or_else, summary_refused}
+use Rattle.waff_plan_text.proofs.SummaryLaws.{LineOnly, line_only, lines_refusal, lines_refused, ok_last, or_else}
 
 -- what a check of a record of the summary says
-abbrev LineFault : Option Line → Record → PlanTextError → Type 0
-LineFault next row (error.Summary at) = IsNotLine next row
-LineFault next row (error.TooLarge at) = IsTooLargeLine next row
-LineFault next row _ = ⊥
+abbrev LineFault : ℕ → Option Line → Record → PlanTextError → Type 0
+LineFault messages next row (error.Summary at) = IsNotLine messages next row
+LineFault messages next row (error.TooLarge at) = IsTooLargeLine messages next row
+LineFault messages next row _ = ⊥
 
 -- and of a record before it
 abbrev RowFault : ℕ → List Record → Record → PlanTextError → Type 0
@@ -38,20 +40,20 @@ RowFault messages before row (error.Twice at) = (n : ℕ) × (says : Row) × IsR
 RowFault messages before row (error.TooLarge at) = IsTooLargeRow messages row
 RowFault messages before row _ = ⊥
 
-line_least : (next : Option Line) (row : Record) (e : PlanTextError) → LineFault next row e → 6 ≤ number e
-line_least next row (error.Summary at) h = omega arith
-line_least next row (error.TooLarge at) h = omega arith
-line_least next row _ h = absurd h
+line_least : (messages : ℕ) (next : Option Line) (row : Record) (e : PlanTextError) → LineFault messages next row e → 6 ≤ number e
+line_least messages next row (error.Summary at) h = omega arith
+line_least messages next row (error.TooLarge at) h = omega arith
+line_least messages next row _ h = absurd h
 
-large_least : (line : Line) (row : Record) → line row ≡ Some refusal.TooLarge → (e : PlanTextError) → LineFault (Some line) row e → 7 ≤ number e
-large_least line row is (error.Summary at) h = absurd (cc)
-large_least line row is (error.TooLarge at) h = omega arith
-large_least line row is _ h = absurd h
+large_least : (messages : ℕ) (line : Line) (row : Record) → refused messages line row ≡ Some refusal.TooLarge → (e : PlanTextError) → LineFault messages (Some line) row e → 7 ≤ number e
+large_least messages line row is (error.Summary at) h = absurd (cc)
+large_least messages line row is (error.TooLarge at) h = omega arith
+large_least messages line row is _ h = absurd h
 
-line_clean : (line : Line) (row : Record) → line row ≡ None → (e : PlanTextError) → LineFault (Some line) row e → ⊥
-line_clean line row is (error.Summary at) h = absurd (cc)
-line_clean line row is (error.TooLarge at) h = absurd (cc)
-line_clean line row is _ h = h
+line_clean : (messages : ℕ) (line : Line) (row : Record) → refused messages line row ≡ None → (e : PlanTextError) → LineFault messages (Some line) row e → ⊥
+line_clean messages line row is (error.Summary at) h = absurd (cc)
+line_clean messages line row is (error.TooLarge at) h = absurd (cc)
+line_clean messages line row is _ h = h
 
 any_least : (e : PlanTextError) → 1 ≤ number e
 any_least error.Memory = omega arith
@@ -102,27 +104,27 @@ module _ (version : Version) (messages : ℕ) (before : List Record) where
   complete_least complete (error.Summary at) h = omega arith
   complete_least complete _ h = absurd h
 
-  end_clean : IsComplete messages before → next_of version messages before ≡ None → (e : PlanTextError) → HoldsAtEnd version messages before e → ⊥
+  end_clean : IsComplete messages before → next_of version before ≡ None → (e : PlanTextError) → HoldsAtEnd version messages before e → ⊥
   end_clean complete last (error.Missing message) h = complete h.0 message h.1
-  end_clean complete last (error.Summary at) h = let more : is_some (next_of version messages before) ≡ false = rw last refl in let h1 = h.1 in absurd (cc)
+  end_clean complete last (error.Summary at) h = let more : is_some (next_of version before) ≡ false = rw last refl in let h1 = h.1 in absurd (cc)
   end_clean complete last _ h = h
 
 module _ (version : Version) (messages : ℕ) (before : List Record) (row : Record) (text : is_text row ≡ true) where
-  in_summary : (next : Option Line) → 1 ≤ length (summary_in (before ++ row ∷ [])) → next_of version messages before ≡ next
+  in_summary : (next : Option Line) → 1 ≤ length (summary_in (before ++ row ∷ [])) → next_of version before ≡ next
       → (summary_in before ≡ [] → (message : ℕ) → IsMissing messages before message → ⊥)
-      → (e : PlanTextError) → HoldsOf version messages before row e → LineFault next row e
+      → (e : PlanTextError) → HoldsOf version messages before row e → LineFault messages next row e
   in_summary next some is complete (error.Csv at) h = let not : is_text row ≡ false = h.1 in absurd (cc)
   in_summary next some is complete (error.Row at) h = let none = ap length h.1 in absurd (omega (arith, some, none))
   in_summary next some is complete (error.Missing message) h = complete h.0 message h.2
   in_summary next some is complete (error.Twice at) h = let none = ap length h.1 in absurd (omega (arith, some, none))
-  in_summary next some is complete (error.Summary at) h = subst (λ n. IsNotLine n row) is h.2
+  in_summary next some is complete (error.Summary at) h = subst (λ n. IsNotLine messages n row) is h.2
   in_summary next some is complete (error.TooLarge at) h = by h.1
     where
       by : ((summary_in (before ++ row ∷ []) ≡ []) × IsTooLargeRow messages row)
-          ⊎ ((1 ≤ length (summary_in (before ++ row ∷ []))) × IsTooLargeLine (next_of version messages before) row)
-          → IsTooLargeLine next row
+          ⊎ ((1 ≤ length (summary_in (before ++ row ∷ []))) × IsTooLargeLine messages (next_of version before) row)
+          → IsTooLargeLine messages next row
       by (inl k) = let none = ap length k.0 in absurd (omega (arith, some, none))
-      by (inr k) = subst (λ n. IsTooLargeLine n row) is k.1
+      by (inr k) = subst (λ n. IsTooLargeLine messages n row) is k.1
   in_summary next some is complete _ h = h
 
   begin_least : 1 ≤ length (summary_in (before ++ row ∷ [])) → (e : PlanTextError) → HoldsOf version messages before row e → 4 ≤ number e
@@ -142,7 +144,7 @@ module _ (version : Version) (messages : ℕ) (before : List Record) (row : Reco
   among_rows none begins (error.TooLarge at) h = by h.1
     where
       by : ((summary_in (before ++ row ∷ []) ≡ []) × IsTooLargeRow messages row)
-          ⊎ ((1 ≤ length (summary_in (before ++ row ∷ []))) × IsTooLargeLine (next_of version messages before) row)
+          ⊎ ((1 ≤ length (summary_in (before ++ row ∷ []))) × IsTooLargeLine messages (next_of version before) row)
           → IsTooLargeRow messages row
       by (inl k) = k.1
       by (inr k) = let no = ap length none in let some = k.0 in absurd (omega (arith, some, no))
@@ -209,29 +211,29 @@ module _ (version : Version) (messages : ℕ) (rows : List Record) where
     csv_decides row there bad = fault_of row (error.Csv (k + 2)) there (number_is, bad) (λ other h. any_least other)
 
   -- the lines of the summary
-  next_none : (k i : ℕ) → length (summary_in (take k rows)) ≡ i → drop i (lines_of version messages) ≡ [] → next_of version messages (take k rows) ≡ None
+  next_none : (k i : ℕ) → length (summary_in (take k rows)) ≡ i → drop i (lines_of version) ≡ [] → next_of version (take k rows) ≡ None
   next_none k i count l =
-      ap (slice_get (lines_of version messages)) count ∙ slice_get_past (lines_of version messages) i (at_end (lines_of version messages) i l)
+      ap (slice_get (lines_of version)) count ∙ slice_get_past (lines_of version) i (at_end (lines_of version) i l)
 
-  next_some : (k i : ℕ) (line : Line) (lines : List Line) → length (summary_in (take k rows)) ≡ i → drop i (lines_of version messages) ≡ line ∷ lines
-      → next_of version messages (take k rows) ≡ Some line
+  next_some : (k i : ℕ) (line : Line) (lines : List Line) → length (summary_in (take k rows)) ≡ i → drop i (lines_of version) ≡ line ∷ lines
+      → next_of version (take k rows) ≡ Some line
   next_some k i line lines count l =
-      ap (slice_get (lines_of version messages)) count ∙ (is_at (lines_of version messages) i line lines l).there
+      ap (slice_get (lines_of version)) count ∙ (is_at (lines_of version) i line lines l).there
 
-  lines_decide : (left : List Record) (lines : List Line) (k i : ℕ) → drop k rows ≡ left → k ≤ length rows → drop i (lines_of version messages) ≡ lines
-      → LinesOnly lines → length (summary_in (take k rows)) ≡ i
+  lines_decide : (left : List Record) (lines : List Line) (k i : ℕ) → drop k rows ≡ left → k ≤ length rows → drop i (lines_of version) ≡ lines
+      → length (summary_in (take k rows)) ≡ i
       → ((row : Record) (more : List Record) → left ≡ row ∷ more → length (summary_in (take k rows ++ row ∷ [])) ≡ suc i)
-      → IsComplete messages (take k rows) → Clean k → Decides (lines_refusal lines (k + 2) left)
-  lines_decide [] [] k i d within l only count opened complete clean =
+      → IsComplete messages (take k rows) → Clean k → Decides (lines_refusal messages lines (k + 2) left)
+  lines_decide [] [] k i d within l count opened complete clean =
       let past = at_end rows k d in
       clean_at_end k within clean past (slice_get_past rows k past)
       (end_clean version messages (take k rows) complete (next_none k i count l))
-  lines_decide [] (line ∷ lines) k i d within l only count opened complete clean =
+  lines_decide [] (line ∷ lines) k i d within l count opened complete clean =
       let past = at_end rows k d in
       let next = next_some k i line lines count l in
       fault_at_end k within clean (error.Summary (k + 2)) (slice_get_past rows k past)
       (number_is k within clean, rw next refl) (complete_least version messages (take k rows) complete)
-  lines_decide (row ∷ more) [] k i d within l only count opened complete clean = by (is_text row) refl
+  lines_decide (row ∷ more) [] k i d within l count opened complete clean = by (is_text row) refl
     where
       by : (t : Bool) → is_text row ≡ t → Decides (Some (at_record (k + 2) (if t then refusal.Summary else refusal.Csv)))
       by false bad = csv_decides k within clean row (is_at rows k row more d).there bad
@@ -240,45 +242,45 @@ module _ (version : Version) (messages : ℕ) (rows : List Record) where
           let next = next_none k i count l in
           let starts = opened row more refl in
           let some : 1 ≤ length (summary_in (take k rows ++ row ∷ [])) = omega (arith, starts) in
-          fault_of k within clean row (error.Summary (k + 2)) there (number_is k within clean, some, subst (λ n. IsNotLine n row) (sym next) tt)
-          (λ other h. line_least None row other (in_summary version messages (take k rows) row text None some next complete other h))
-  lines_decide (row ∷ more) (line ∷ lines) k i d within l only count opened complete clean =
+          fault_of k within clean row (error.Summary (k + 2)) there (number_is k within clean, some, subst (λ n. IsNotLine messages n row) (sym next) tt)
+          (λ other h. line_least messages None row other (in_summary version messages (take k rows) row text None some next complete other h))
+  lines_decide (row ∷ more) (line ∷ lines) k i d within l count opened complete clean =
       let at = is_at rows k row more d in
       let starts = opened row more refl in
       let count_more : length (summary_in (take (suc k) rows)) ≡ suc i = ap (λ rs. length (summary_in rs)) at.before ∙ starts in
       by (is_text row) refl
-      (λ clean. subst (λ n. Decides (lines_refusal lines n more)) (omega arith)
-      (lines_decide more lines (suc k) (suc i) at.behind at.within (is_at (lines_of version messages) i line lines l).behind only.1 count_more
+      (λ clean. subst (λ n. Decides (lines_refusal messages lines n more)) (omega arith)
+      (lines_decide more lines (suc k) (suc i) at.behind at.within (is_at (lines_of version) i line lines l).behind count_more
       (λ other others same. summary_more (take (suc k) rows) other i count_more)
       (λ none message missing. let zero_long = ap length none in absurd (omega (arith, zero_long, count_more))) clean))
     where
-      read : is_text row ≡ true → (Clean (suc k) → Decides (lines_refusal lines (k + 2 + 1) more)) → (o : Option Refusal) → line row ≡ o → LineOnly o
-          → Decides (or_else o (k + 2) (lines_refusal lines (k + 2 + 1) more))
+      read : is_text row ≡ true → (Clean (suc k) → Decides (lines_refusal messages lines (k + 2 + 1) more)) → (o : Option Refusal) → refused messages line row ≡ o → LineOnly o
+          → Decides (or_else o (k + 2) (lines_refusal messages lines (k + 2 + 1) more))
       read text others None is h =
           let starts = opened row more refl in
           others (clean_of k within clean row (is_at rows k row more d).there
-          (λ e holds. line_clean line row is e
+          (λ e holds. line_clean messages line row is e
           (in_summary version messages (take k rows) row text (Some line) (omega (arith, starts)) (next_some k i line lines count l) complete e holds)))
       read text others (Some refusal.Summary) is h =
           let starts = opened row more refl in
           let next = next_some k i line lines count l in
           let some : 1 ≤ length (summary_in (take k rows ++ row ∷ [])) = omega (arith, starts) in
           fault_of k within clean row (error.Summary (k + 2)) (is_at rows k row more d).there
-          (number_is k within clean, some, subst (λ n. IsNotLine n row) (sym next) is)
-          (λ other holds. line_least (Some line) row other (in_summary version messages (take k rows) row text (Some line) some next complete other holds))
+          (number_is k within clean, some, subst (λ n. IsNotLine messages n row) (sym next) is)
+          (λ other holds. line_least messages (Some line) row other (in_summary version messages (take k rows) row text (Some line) some next complete other holds))
       read text others (Some refusal.TooLarge) is h =
           let starts = opened row more refl in
           let next = next_some k i line lines count l in
           let some : 1 ≤ length (summary_in (take k rows ++ row ∷ [])) = omega (arith, starts) in
           fault_of k within clean row (error.TooLarge (k + 2)) (is_at rows k row more d).there
-          (number_is k within clean, inr (some, subst (λ n. IsTooLargeLine n row) (sym next) is))
-          (λ other holds. large_least line row is other (in_summary version messages (take k rows) row text (Some line) some next complete other holds))
+          (number_is k within clean, inr (some, subst (λ n. IsTooLargeLine messages n row) (sym next) is))
+          (λ other holds. large_least messages line row is other (in_summary version messages (take k rows) row text (Some line) some next complete other holds))
       read text others (Some _) is h = absurd h
 
-      by : (t : Bool) → is_text row ≡ t → (Clean (suc k) → Decides (lines_refusal lines (k + 2 + 1) more))
-          → Decides (if t then or_else (line row) (k + 2) (lines_refusal lines (k + 2 + 1) more) else Some (error.Csv (k + 2)))
+      by : (t : Bool) → is_text row ≡ t → (Clean (suc k) → Decides (lines_refusal messages lines (k + 2 + 1) more))
+          → Decides (if t then or_else (refused messages line row) (k + 2) (lines_refusal messages lines (k + 2 + 1) more) else Some (error.Csv (k + 2)))
       by false bad others = csv_decides k within clean row (is_at rows k row more d).there bad
-      by true text others = read text others (line row) refl (only.0 row)
+      by true text others = read text others (refused messages line row) refl (line_only messages line row)
 
   -- the rows so far, where one is missing, and where none is
   pub missing_of : (slots : Slots) (before : List Record) (j : ℕ) → Kept messages slots before → j < length slots → get_or slots j None ≡ None
@@ -316,8 +318,8 @@ module _ (version : Version) (messages : ℕ) (rows : List Record) where
           → Decides (refusal_of (r >>= (λ _. let failed : Result Given PlanTextError = Err (error.Summary (k + 2)) in failed)))
       by (Ok says) are =
           let complete : IsComplete messages (take k rows) = λ none. complete_of slots (take k rows) says so_far are in
-          let next : next_of version messages (take k rows) ≡ slice_get (lines_of version messages) 0 =
-          ap (λ (rs : List Record). slice_get (lines_of version messages) (length rs)) none in
+          let next : next_of version (take k rows) ≡ slice_get (lines_of version) 0 =
+          ap (λ (rs : List Record). slice_get (lines_of version) (length rs)) none in
           fault_at_end k within clean (error.Summary (k + 2)) (slice_get_past rows k (at_end rows k d))
           (number_is k within clean, subst (λ (o : Option Line). IsSome o) (sym next) refl)
           (complete_least version messages (take k rows) complete)
@@ -340,8 +342,8 @@ module _ (version : Version) (messages : ℕ) (rows : List Record) where
           >>= (λ (summary : SummaryLines). let plan : Given = record { version = version; rows = says; summary = summary } in Ok plan))))
       by (Ok says) are =
           let whole : SummaryLines → Given = λ summary. record { version = version; rows = says; summary = summary } in
-          subst Decides (sym (ok_last (summary_of version messages (k + 2) (row ∷ more)) whole ∙ summary_refused version messages (k + 2) (row ∷ more)))
-          (lines_decide (row ∷ more) (lines_of version messages) k 0 d within refl (lines_only version messages) (ap length none)
+          subst Decides (sym (ok_last (summary_of version messages (k + 2) (row ∷ more)) whole ∙ lines_refused messages (lines_of version) (k + 2) (row ∷ more) no_summary))
+          (lines_decide (row ∷ more) (lines_of version) k 0 d within refl (ap length none)
           (λ other others same. let this : row ≡ other = cc in ap (λ r. length (summary_in (take k rows ++ r ∷ []))) (sym this) ∙ starts)
           (λ none. complete_of slots (take k rows) says so_far are) clean)
       by (Err e) (j, is, lt, free, all) =
@@ -508,9 +510,9 @@ module _ (version : Version) (messages : ℕ) (records : List Record) (e : PlanT
   body : (plan_of_rows version messages (drop 1 records) ≡ Err e) ↔ ((place : ℕ) × IsFirstFault version messages (drop 1 records) place e)
   body = decided version messages (drop 1 records) (plan_of_rows version messages (drop 1 records)) (rows_decided version messages (drop 1 records)) e
 
-  refused : plan_of_records version messages records ≡ Err e → IsRefusedPlan version messages records e
+  plan_refused : plan_of_records version messages records ≡ Err e → IsRefusedPlan version messages records e
   unfolding plan_of_records
-  refused h = by (header_of records) refl h
+  plan_refused h = by (header_of records) refl h
     where
       by : (r : Result (Unit {0}) PlanTextError) → header_of records ≡ r → (r >>= (λ _. plan_of_rows version messages (drop 1 records))) ≡ Err e
           → IsRefusedPlan version messages records e
@@ -523,4 +525,4 @@ module _ (version : Version) (messages : ℕ) (records : List Record) (e : PlanT
   refuse (inr (is, first)) = rw is (body.1 first)
 
 pub first_fault_decides : (version : Version) (messages : ℕ) (bytes : List ℕ) → FirstFaultDecides version messages bytes
-first_fault_decides version messages bytes e = (refused version messages (records_of bytes) e, refuse version messages (records_of bytes) e)
+first_fault_decides version messages bytes e = (plan_refused version messages (records_of bytes) e, refuse version messages (records_of bytes) e)

@@ -1,6 +1,7 @@
 pub mod LinesLemmas
 mod LineLaws
 mod WalkLaws
+mod TableLaws
 mod SlotLaws
 mod PlanLaws
 pub mod WrittenPlans

@@ -1,5 +1,5 @@
 -- A summary is read exactly where it is spelled.
-use Rattle.std.proofs.Common.{◌≡◌, ◌≢◌, ℕ, suc, ◌+◌, ◌≤◌, List, [], ◌∷◌, ◌++◌, All, length, map, drop, Bool, true, false, Option, Some, None, Result, Ok, Err, codes, refl, sym, ap, ◌∙◌, subst, arith, inl, inr}
+use Rattle.std.proofs.Common.{◌≡◌, ◌≢◌, ℕ, suc, ◌+◌, ◌≤◌, List, [], ◌∷◌, All, length, map, Bool, true, false, Option, Some, None, Result, Ok, Err, codes, refl, sym, ap, ◌∙◌, subst, arith, inl, inr}
 use Rattle.std.specs.Prelude.{◌==◌, is_some, nat_le, ok_or, option_map, if◌then◌else◌}
 use Rattle.std.specs.Str.{bytes_eq}
 use Rattle.std.proofs.lemmas.Bool.{and_parts, eqb-true, eqb-false, le-leb, leb-true, le-ltb, ne_eqb}
@@ -7,6 +7,7 @@ use Rattle.std.proofs.lemmas.List.Elements.{All-cons, All-head, All-nil, All-tai
 use Rattle.std.proofs.lemmas.Slice.Eq.{bytes_eq-Decides}
 use Rattle.waff_model.specs.declared.limits.TheConstants.{MAX_TICK, MAX_WORKERS}
 use Rattle.waff_model.specs.declared.message.Version.{Version}
+use Rattle.waff_model.specs.declared.message.Version.TheVariants.{V1, V2, V3}
 use Rattle.waff_model.specs.Versions.{has_releases}
 use Rattle.waff_parse.specs.Fields.{Field, two_of}
 use Rattle.waff_parse.specs.Refusals.{◌>>=◌, told}
@@ -17,15 +18,15 @@ use Rattle.waff_plan.specs.Chain.{IsListed, IsAmongFirst}
 use Rattle.waff_plan_text.specs.Fields.{is_dash, number_within_limit}
 use Rattle.waff_plan_text.specs.Given.{SummaryLines}
 use Rattle.waff_plan_text.specs.Refusals.{at_record}
-use Rattle.waff_plan_text.specs.SpelledSummaries.{AreNumbers, AreTexts, IsTick, IsWorkersField, SpellsSummary, SummaryIsExact}
-use Rattle.waff_plan_text.specs.Spelling.{release_line}
-use Rattle.waff_plan_text.specs.Summaries.{bound_line, chain_line, chain_of, closing_of, ending_of, ends, few, is_bound, link_of, next_line, same, summary_of, tick_line, tick_of, value_of, with_closing, workers_line, workers_of}
-use Rattle.waff_plan_text.specs.declared.closing.Closing.{Closing}
-use Rattle.waff_plan_text.specs.declared.refusal.PlanTextError.{PlanTextError}
+use Rattle.waff_plan_text.specs.SpelledLines.{AreNumbers, IsLine, IsPair, IsSmall, IsWorkersField}
+use Rattle.waff_plan_text.specs.SpelledSummaries.{AreLinesOf, AreTexts, SpellsSummary, SummaryIsExact}
+use Rattle.waff_plan_text.specs.Summaries.{bound_line, chain_line, chain_of, few, is_bound, link_of, no_summary, read_line, same, summary_of, tick_line, tick_of, value_of, with_lines, workers_line, workers_of}
+use Rattle.waff_plan_text.specs.Table.{Told, lines_of, line_name, told_of, with_told}
 use Rattle.waff_plan_text.specs.declared.refusal.Refusal.{Refusal}
 use Rattle.waff_plan_text.specs.declared.refusal.Refusal.TheVariants as refusal
+use Rattle.waff_plan_text.specs.declared.table.Line.{Line}
+use Rattle.waff_plan_text.specs.declared.table.Line.TheVariants.{Bound, Chain, Cost, Length, Release, Total, Workers}
 use Rattle.waff_plan_text.proofs.RowLaws.{NumberIn, number_in}
-use Rattle.waff_plan_text.proofs.SummaryLaws.{drop-one}
 
 -- what a reading gave, by two names
 same_read : {F A : Type 0} (a b : A) → ◌≡◌ {A = Result A F} (Ok a) (Ok b) → a ≡ b
@@ -35,21 +36,6 @@ same_read a b h = cc
 bind_ok : {F A B : Type 0} (r : Result A F) (f : A → Result B F) (b : B) → (r >>= f) ≡ Ok b → (a : A) × (r ≡ Ok a) × (f a ≡ Ok b)
 bind_ok (Ok a) f b h = (a, refl, h)
 bind_ok (Err e) f b h = absurd (cc)
-
-line_ok : {A : Type 0} (read : Record → Result A Refusal) (at : ℕ) (rows : List Record) (a : A) → next_line read at rows ≡ Ok a
-    → (row : Record) × (rows ≡ row ∷ drop 1 rows) × (read row ≡ Ok a)
-line_ok read at [] a h = absurd (cc)
-line_ok {A} read at (row ∷ more) a h = by (is_text row) (read row) refl h
-  where
-    by : (t : Bool) (r : Result A Refusal) → read row ≡ r → told (at_record at) (if t then r else Err refusal.Csv) ≡ Ok a
-        → (first : Record) × (row ∷ more ≡ first ∷ more) × (read first ≡ Ok a)
-    by false r is same = absurd (cc)
-    by true (Err e) is same = absurd (cc)
-    by true (Ok b) is same = let one : b ≡ a = cc in (row, refl, is ∙ ap Ok one)
-
-ok_line : {A : Type 0} (read : Record → Result A Refusal) (at : ℕ) (row : Record) (more : List Record) (a : A) → is_text row ≡ true → read row ≡ Ok a
-    → next_line read at (row ∷ more) ≡ Ok a
-ok_line read at row more a text is = rw (text, is) refl
 
 -- the value of a line with a name
 pub value_ok : (name : Field) (row : Record) (text : Field) → value_of name (two_of row) ≡ Ok text → row ≡ name ∷ text ∷ []
@@ -66,7 +52,11 @@ value_ok name _ text h = absurd (cc)
 pub ok_value : (name text : Field) → value_of name (two_of (name ∷ text ∷ [])) ≡ Ok text
 ok_value name text = rw ((bytes_eq-Decides name name).1 refl) refl
 
--- a number within the limit
+-- a field writes a number, which is within the limit
+pub record IsTick (text : Field) (n : ℕ) : Type 0 where
+  pub number : number_of text ≡ Some n
+  pub within : n ≤ MAX_TICK
+
 limit_ok : (text : Field) (n : ℕ) → number_within_limit text ≡ Ok n → IsTick text n
 limit_ok text n h = by (number_within 0 MAX_TICK text) (number_in 0 MAX_TICK text) h
   where
@@ -95,6 +85,12 @@ pub ok_tick : (name text : Field) (n : ℕ) → IsTick text n → tick_line name
 ok_tick name text n is =
     let some : is_some (number_of text) ≡ true = ap is_some is.number in
     ap (λ r. r >>= tick_of) (ok_value name text) ∙ ap (λ t. if t then number_within_limit text else Err refusal.Summary) some ∙ ok_limit text n is
+
+number_ok : (name : Field) (row : Record) (n : ℕ) → tick_line name row ≡ Ok n → IsPair name (λ text. number_of text ≡ Some n) row × (n ≤ MAX_TICK)
+number_ok name row n h = let is = tick_ok name row n h in ((is.0, is.1, is.2.number), is.2.within)
+
+ok_number : (name : Field) (row : Record) (n : ℕ) → IsPair name (λ text. number_of text ≡ Some n) row → n ≤ MAX_TICK → tick_line name row ≡ Ok n
+ok_number name row n (text, is, number) small = ap (tick_line name) is ∙ ok_tick name text n (record { number = number; within = small })
 
 -- the workers
 pub workers_ok : (row : Record) (workers : Option ℕ) → workers_line row ≡ Ok workers → (text : Field) × (row ≡ codes "workers" ∷ text ∷ []) × IsWorkersField text workers
@@ -231,172 +227,79 @@ ok_bound left_text right_text left right l r =
       le-ltb MAX_TICK right r.within,
     ) refl
 
-ends_ok : (at : ℕ) (rows : List Record) (u : Unit {0}) → ends at rows ≡ Ok u → rows ≡ []
-ends_ok at [] u h = refl
-ends_ok at (row ∷ more) u h = absurd (cc)
+-- a record is read as a line exactly where it is that line, within the limit
+pub line_ok : (messages : ℕ) (line : Line) (row : Record) (value : Told line) → read_line messages line row ≡ Ok value
+    → IsLine messages line row value × IsSmall line value
+line_ok messages Workers row workers h = (workers_ok row workers h, tt)
+line_ok messages Total row n h = number_ok (line_name Total) row n h
+line_ok messages Length row n h = number_ok (line_name Length) row n h
+line_ok messages Chain row chain h = let is = chain_ok messages row chain h in ((is.0, is.1, (is.2, is.3)), tt)
+line_ok messages Release row n h = number_ok (line_name Release) row n h
+line_ok messages Cost row n h = number_ok (line_name Cost) row n h
+line_ok messages Bound row sides h =
+    let is = bound_ok row sides h in
+    ((is.0, is.1, is.2, is.3.number, is.4.number), (is.3.within, is.4.within))
 
--- the lines behind the chain
-record SpellsClosing (version : Version) (rows : List Record) (closing : Closing) : Type 0 where
-  release_text : Field
-  cost_text : Field
-  left_text : Field
-  right_text : Field
-  lines : rows ≡ release_line version release_text ++ (codes "cost" ∷ cost_text ∷ []) ∷ (codes "bound" ∷ left_text ∷ right_text ∷ []) ∷ []
-  release : has_releases version ≡ true → IsTick release_text closing.release
-  no_release : has_releases version ≡ false → closing.release ≡ 0
-  cost : IsTick cost_text closing.cost
-  left : IsTick left_text closing.left
-  right : IsTick right_text closing.right
+pub ok_line : (messages : ℕ) (line : Line) (row : Record) (value : Told line) → IsLine messages line row value → IsSmall line value
+    → read_line messages line row ≡ Ok value
+ok_line messages Workers row workers (text, is, field) small = ap workers_line is ∙ ok_workers text workers field
+ok_line messages Total row n is small = ok_number (line_name Total) row n is small
+ok_line messages Length row n is small = ok_number (line_name Length) row n is small
+ok_line messages Chain row chain (text, is, are) small = ap (chain_line messages) is ∙ ok_chain messages text chain are.0 are.1
+ok_line messages Release row n is small = ok_number (line_name Release) row n is small
+ok_line messages Cost row n is small = ok_number (line_name Cost) row n is small
+ok_line messages Bound row sides (left, right, is, l, r) small =
+    ap bound_line is
+    ∙ ok_bound left right sides.0 sides.1 (record { number = l; within = small.0 }) (record { number = r; within = small.1 })
 
-record SpellsEnding (release : ℕ) (rows : List Record) (closing : Closing) : Type 0 where
-  cost_text : Field
-  left_text : Field
-  right_text : Field
-  lines : rows ≡ (codes "cost" ∷ cost_text ∷ []) ∷ (codes "bound" ∷ left_text ∷ right_text ∷ []) ∷ []
-  same : closing.release ≡ release
-  cost : IsTick cost_text closing.cost
-  left : IsTick left_text closing.left
-  right : IsTick right_text closing.right
+-- values of lines, and the summary with them
+abbrev Values : List Line → Type 0
+Values [] = Unit {0}
+Values (line ∷ lines) = Told line × Values lines
 
-ending_ok : (release at : ℕ) (rows : List Record) (closing : Closing) → ending_of release at rows ≡ Ok closing → SpellsEnding release rows closing
-unfolding ending_of
-ending_ok release at rows closing h =
-    by (next_line (tick_line (codes "cost")) at rows) refl (next_line bound_line (at + 1) (drop 1 rows)) refl (ends (at + 2) (drop 2 rows)) refl h
+abbrev with_all : (lines : List Line) → Values lines → SummaryLines → SummaryLines
+with_all [] values summary = summary
+with_all (line ∷ lines) values summary = with_all lines values.1 (with_told line values.0 summary)
+
+abbrev Has : (lines : List Line) → Values lines → SummaryLines → Type 0
+Has [] values summary = Unit {0}
+Has (line ∷ lines) values summary = (told_of line summary ≡ values.0) × Has lines values.1 summary
+
+-- records are read as lines with some values: they are the lines of each summary that has these
+record AreRead (messages : ℕ) (lines : List Line) (rows : List Record) (before after : SummaryLines) : Type 0 where
+  values : Values lines
+  whole : with_all lines values before ≡ after
+  spelled : (summary : SummaryLines) → Has lines values summary → AreLinesOf messages summary lines rows
+
+lines_ok : (messages : ℕ) (lines : List Line) (at : ℕ) (rows : List Record) (before after : SummaryLines)
+    → with_lines messages lines at rows before ≡ Ok after → AreRead messages lines rows before after
+unfolding with_lines
+lines_ok messages [] at [] before after h = record { values = tt; whole = same_read before after h; spelled = λ summary has. tt }
+lines_ok messages [] at (row ∷ more) before after h = absurd (cc)
+lines_ok messages (line ∷ lines) at [] before after h = absurd (cc)
+lines_ok messages (line ∷ lines) at (row ∷ more) before after h =
+    by (is_text row) (read_line messages line row) refl (λ next. lines_ok messages lines (at + 1) more next after) h
   where
-    by : (c : Result ℕ PlanTextError) → next_line (tick_line (codes "cost")) at rows ≡ c → (b : Result (ℕ × ℕ) PlanTextError)
-        → next_line bound_line (at + 1) (drop 1 rows) ≡ b → (e : Result (Unit {0}) PlanTextError) → ends (at + 2) (drop 2 rows) ≡ e
-        → (c >>= (λ cost. b >>= (λ bound. e >>= (λ _. let closing : Closing = record { release = release; cost = cost; left = bound.0; right = bound.1 } in
-        let read : Result Closing PlanTextError = Ok closing in read)))) ≡ Ok closing → SpellsEnding release rows closing
-    by (Ok c) p (Ok b) q (Ok u) r same =
-        let whole = same_read (record { release = release; cost = c; left = b.0; right = b.1 }) closing same in
-        let first = line_ok (tick_line (codes "cost")) at rows c p in
-        let cost = tick_ok (codes "cost") first.0 c first.2 in
-        let second = line_ok bound_line (at + 1) (drop 1 rows) b q in
-        let bound = bound_ok second.0 b second.2 in
-        let none = ends_ok (at + 2) (drop 2 rows) u r in
-        let others : drop 1 rows ≡ (codes "bound" ∷ bound.0 ∷ bound.1 ∷ []) ∷ [] =
-        second.1 ∙ ap (λ (rs : List Record). second.0 ∷ rs) (sym (drop-one 1 rows) ∙ none) ∙ ap (λ (r : Record). r ∷ []) bound.2 in
-        let lines : rows ≡ (codes "cost" ∷ cost.0 ∷ []) ∷ (codes "bound" ∷ bound.0 ∷ bound.1 ∷ []) ∷ [] =
-        first.1 ∙ ap (λ (rs : List Record). first.0 ∷ rs) others ∙ ap (λ (r : Record). r ∷ (codes "bound" ∷ bound.0 ∷ bound.1 ∷ []) ∷ []) cost.1 in
-        subst (SpellsEnding release rows) whole (record {
-          cost_text = cost.0;
-          left_text = bound.0;
-          right_text = bound.1;
-          lines = lines;
-          same = refl;
-          cost = cost.2;
-          left = bound.3;
-          right = bound.4;
-        })
-    by _ _ _ _ _ _ same = absurd (cc)
-
-closing_ok : (version : Version) (at : ℕ) (rows : List Record) (closing : Closing) → closing_of version at rows ≡ Ok closing → SpellsClosing version rows closing
-unfolding closing_of
-closing_ok version at rows closing h = by (has_releases version) refl h
-  where
-    by : (t : Bool) → has_releases version ≡ t
-        → (if t then (next_line (tick_line (codes "release")) at rows >>= (λ release. ending_of release (at + 1) (drop 1 rows))) else ending_of 0 at rows) ≡ Ok closing
-        → SpellsClosing version rows closing
-    by false none h =
-        let e = ending_ok 0 at rows closing h in
+    by : (t : Bool) (r : Result (Told line) Refusal) → read_line messages line row ≡ r
+        → ((next : SummaryLines) → with_lines messages lines (at + 1) more next ≡ Ok after → AreRead messages lines more next after)
+        → (told (at_record at) (if t then (r >>= (λ value. let next : Result SummaryLines Refusal = Ok (with_told line value before) in next)) else Err refusal.Csv)
+        >>= with_lines messages lines (at + 1) more) ≡ Ok after
+        → AreRead messages (line ∷ lines) (row ∷ more) before after
+    by false r is others same = absurd (cc)
+    by true (Err e) is others same = absurd (cc)
+    by true (Ok value) is others same =
+        let first = line_ok messages line row value is in
+        let read = others (with_told line value before) same in
         record {
-          release_text = [];
-          cost_text = e.cost_text;
-          left_text = e.left_text;
-          right_text = e.right_text;
-          lines = rw none e.lines;
-          release = λ some. absurd (cc);
-          no_release = λ none. e.same;
-          cost = e.cost;
-          left = e.left;
-          right = e.right;
-        }
-    by true some h =
-        let both = bind_ok (next_line (tick_line (codes "release")) at rows) (λ release. ending_of release (at + 1) (drop 1 rows)) closing h in
-        let first = line_ok (tick_line (codes "release")) at rows both.0 both.1 in
-        let release = tick_ok (codes "release") first.0 both.0 first.2 in
-        let e = ending_ok both.0 (at + 1) (drop 1 rows) closing both.2 in
-        let others : List Record = (codes "cost" ∷ e.cost_text ∷ []) ∷ (codes "bound" ∷ e.left_text ∷ e.right_text ∷ []) ∷ [] in
-        let lines : rows ≡ (codes "release" ∷ release.0 ∷ []) ∷ others =
-        first.1 ∙ ap (λ (rs : List Record). first.0 ∷ rs) e.lines ∙ ap (λ (r : Record). r ∷ others) release.1 in
-        record {
-          release_text = release.0;
-          cost_text = e.cost_text;
-          left_text = e.left_text;
-          right_text = e.right_text;
-          lines = rw some lines;
-          release = λ some. subst (IsTick release.0) (sym e.same) release.2;
-          no_release = λ none. absurd (cc);
-          cost = e.cost;
-          left = e.left;
-          right = e.right;
+          values = (value, read.values);
+          whole = read.whole;
+          spelled = λ summary has. (subst (λ v. IsLine messages line row v × IsSmall line v) (sym has.0) first, read.spelled summary has.1);
         }
 
-spelled : (version : Version) (messages at : ℕ) (rows : List Record) (summary : SummaryLines) → summary_of version messages at rows ≡ Ok summary
-    → SpellsSummary version messages rows summary
-unfolding summary_of
-spelled version messages at rows summary h =
-    by (next_line workers_line at rows) refl (next_line (tick_line (codes "total")) (at + 1) (drop 1 rows)) refl
-    (next_line (tick_line (codes "length")) (at + 2) (drop 2 rows)) refl (next_line (chain_line messages) (at + 3) (drop 3 rows)) refl
-    (closing_of version (at + 4) (drop 4 rows)) refl h
-  where
-    by : (w : Result (Option ℕ) PlanTextError) → next_line workers_line at rows ≡ w
-        → (t : Result ℕ PlanTextError) → next_line (tick_line (codes "total")) (at + 1) (drop 1 rows) ≡ t
-        → (l : Result ℕ PlanTextError) → next_line (tick_line (codes "length")) (at + 2) (drop 2 rows) ≡ l
-        → (c : Result (List ℕ) PlanTextError) → next_line (chain_line messages) (at + 3) (drop 3 rows) ≡ c
-        → (k : Result Closing PlanTextError) → closing_of version (at + 4) (drop 4 rows) ≡ k
-        → (do
-          workers ← w
-          total ← t
-          length ← l
-          chain ← c
-          closing ← k
-          Ok (with_closing workers total length chain closing)) ≡ Ok summary
-        → SpellsSummary version messages rows summary
-    by (Ok w) wi (Ok t) ti (Ok l) li (Ok c) ci (Ok k) ki same =
-        let whole = same_read (with_closing w t l c k) summary same in
-        let a = line_ok workers_line at rows w wi in
-        let workers = workers_ok a.0 w a.2 in
-        let b = line_ok (tick_line (codes "total")) (at + 1) (drop 1 rows) t ti in
-        let total = tick_ok (codes "total") b.0 t b.2 in
-        let d = line_ok (tick_line (codes "length")) (at + 2) (drop 2 rows) l li in
-        let long = tick_ok (codes "length") d.0 l d.2 in
-        let e = line_ok (chain_line messages) (at + 3) (drop 3 rows) c ci in
-        let chain = chain_ok messages e.0 c e.2 in
-        let closing = closing_ok version (at + 4) (drop 4 rows) k ki in
-        let end : List Record = release_line version closing.release_text ++ (codes "cost" ∷ closing.cost_text ∷ []) ∷ (codes "bound" ∷ closing.left_text ∷ closing.right_text ∷ []) ∷ [] in
-        let four : drop 3 rows ≡ (codes "chain" ∷ chain.0 ∷ []) ∷ end =
-        e.1 ∙ ap (λ (rs : List Record). e.0 ∷ rs) (sym (drop-one 3 rows) ∙ closing.lines) ∙ ap (λ (r : Record). r ∷ end) chain.1 in
-        let three : drop 2 rows ≡ (codes "length" ∷ long.0 ∷ []) ∷ (codes "chain" ∷ chain.0 ∷ []) ∷ end =
-        d.1 ∙ ap (λ (rs : List Record). d.0 ∷ rs) (sym (drop-one 2 rows) ∙ four) ∙ ap (λ (r : Record). r ∷ (codes "chain" ∷ chain.0 ∷ []) ∷ end) long.1 in
-        let two : drop 1 rows ≡ (codes "total" ∷ total.0 ∷ []) ∷ (codes "length" ∷ long.0 ∷ []) ∷ (codes "chain" ∷ chain.0 ∷ []) ∷ end =
-        b.1 ∙ ap (λ (rs : List Record). b.0 ∷ rs) (sym (drop-one 1 rows) ∙ three)
-        ∙ ap (λ (r : Record). r ∷ (codes "length" ∷ long.0 ∷ []) ∷ (codes "chain" ∷ chain.0 ∷ []) ∷ end) total.1 in
-        let lines : rows ≡ (codes "workers" ∷ workers.0 ∷ []) ∷ (codes "total" ∷ total.0 ∷ []) ∷ (codes "length" ∷ long.0 ∷ []) ∷ (codes "chain" ∷ chain.0 ∷ []) ∷ end =
-        a.1 ∙ ap (λ (rs : List Record). a.0 ∷ rs) two
-        ∙ ap (λ (r : Record). r ∷ (codes "total" ∷ total.0 ∷ []) ∷ (codes "length" ∷ long.0 ∷ []) ∷ (codes "chain" ∷ chain.0 ∷ []) ∷ end) workers.1 in
-        subst (SpellsSummary version messages rows) whole (record {
-          workers_text = workers.0;
-          total_text = total.0;
-          length_text = long.0;
-          chain_text = chain.0;
-          release_text = closing.release_text;
-          cost_text = closing.cost_text;
-          left_text = closing.left_text;
-          right_text = closing.right_text;
-          lines = lines;
-          workers = workers.2;
-          total = total.2;
-          length = long.2;
-          chain = chain.2;
-          listed = chain.3;
-          release = closing.release;
-          no_release = closing.no_release;
-          cost = closing.cost;
-          left = closing.left;
-          right = closing.right;
-        })
-    by _ _ _ _ _ _ _ _ _ _ same = absurd (cc)
+-- a summary that has what another tells by these lines
+abbrev copied : List Line → SummaryLines → SummaryLines → SummaryLines
+copied [] whole summary = summary
+copied (line ∷ lines) whole summary = copied lines whole (with_told line (told_of line whole) summary)
 
 -- the texts of a list
 first_text : (row : Record) (more : List Record) → AreTexts (row ∷ more) → is_text row ≡ true
@@ -405,97 +308,47 @@ first_text row more texts = texts row (0, omega arith, refl)
 other_texts : (row : Record) (more : List Record) → AreTexts (row ∷ more) → AreTexts more
 other_texts row more texts = λ fields (k, lt, is). texts fields (suc k, omega (arith, lt), is)
 
-ok_ending : (release at cost left right : ℕ) (cost_text left_text right_text : Field)
-    → AreTexts ((codes "cost" ∷ cost_text ∷ []) ∷ (codes "bound" ∷ left_text ∷ right_text ∷ []) ∷ [])
-    → IsTick cost_text cost → IsTick left_text left → IsTick right_text right
-    → ending_of release at ((codes "cost" ∷ cost_text ∷ []) ∷ (codes "bound" ∷ left_text ∷ right_text ∷ []) ∷ [])
-    ≡ Ok (record { release = release; cost = cost; left = left; right = right })
-unfolding ending_of
-ok_ending release at cost left right cost_text left_text right_text texts c l r =
-    let last : List Record = (codes "bound" ∷ left_text ∷ right_text ∷ []) ∷ [] in
-    let others = other_texts (codes "cost" ∷ cost_text ∷ []) last texts in
-    rw (
-      ok_line (tick_line (codes "cost")) at (codes "cost" ∷ cost_text ∷ []) last cost (first_text (codes "cost" ∷ cost_text ∷ []) last texts)
-          (ok_tick (codes "cost") cost_text cost c),
-      ok_line bound_line (at + 1) (codes "bound" ∷ left_text ∷ right_text ∷ []) [] (left, right) (first_text (codes "bound" ∷ left_text ∷ right_text ∷ []) [] others)
-          (ok_bound left_text right_text left right l r),
-    ) refl
+ok_lines : (messages : ℕ) (lines : List Line) (at : ℕ) (rows : List Record) (before whole : SummaryLines) → AreTexts rows
+    → AreLinesOf messages whole lines rows → with_lines messages lines at rows before ≡ Ok (copied lines whole before)
+unfolding with_lines
+ok_lines messages [] at [] before whole texts are = refl
+ok_lines messages [] at (row ∷ more) before whole texts are = absurd are
+ok_lines messages (line ∷ lines) at [] before whole texts are = absurd are
+ok_lines messages (line ∷ lines) at (row ∷ more) before whole texts are =
+    rw (first_text row more texts, ok_line messages line row (told_of line whole) are.0.0 are.0.1)
+    (ok_lines messages lines (at + 1) more (with_told line (told_of line whole) before) whole (other_texts row more texts) are.1)
 
-ok_closing : (version : Version) (at : ℕ) (rows : List Record) (closing : Closing) → AreTexts rows → SpellsClosing version rows closing
-    → closing_of version at rows ≡ Ok closing
-unfolding closing_of
-ok_closing version at rows closing texts s = by (has_releases version) refl
-  where
-    by : (t : Bool) → has_releases version ≡ t
-        → (if t then (next_line (tick_line (codes "release")) at rows >>= (λ release. ending_of release (at + 1) (drop 1 rows))) else ending_of 0 at rows) ≡ Ok closing
-    by false none =
-        let lines : rows ≡ (codes "cost" ∷ s.cost_text ∷ []) ∷ (codes "bound" ∷ s.left_text ∷ s.right_text ∷ []) ∷ [] = rw none at s.lines in
-        let read = ok_ending 0 at closing.cost closing.left closing.right s.cost_text s.left_text s.right_text (subst AreTexts lines texts) s.cost s.left s.right in
-        let whole : ◌≡◌ {A = Closing} (record { release = 0; cost = closing.cost; left = closing.left; right = closing.right }) closing =
-        let zero : closing.release ≡ 0 = s.no_release none in rw (← zero) refl in
-        ap (ending_of 0 at) lines ∙ read ∙ ap Ok whole
-    by true some =
-        let others : List Record = (codes "cost" ∷ s.cost_text ∷ []) ∷ (codes "bound" ∷ s.left_text ∷ s.right_text ∷ []) ∷ [] in
-        let lines : rows ≡ (codes "release" ∷ s.release_text ∷ []) ∷ others = rw some at s.lines in
-        let here : AreTexts ((codes "release" ∷ s.release_text ∷ []) ∷ others) = subst AreTexts lines texts in
-        let release = ok_line (tick_line (codes "release")) at (codes "release" ∷ s.release_text ∷ []) others closing.release
-        (first_text (codes "release" ∷ s.release_text ∷ []) others here) (ok_tick (codes "release") s.release_text closing.release (s.release some)) in
-        let read = ok_ending closing.release (at + 1) closing.cost closing.left closing.right s.cost_text s.left_text s.right_text
-        (other_texts (codes "release" ∷ s.release_text ∷ []) others here) s.cost s.left s.right in
-        ap (λ (rs : List Record). next_line (tick_line (codes "release")) at rs >>= (λ release. ending_of release (at + 1) (drop 1 rs))) lines
-        ∙ ap (λ r. r >>= (λ release. ending_of release (at + 1) others)) release ∙ read
+-- the lines of a version tell all of a summary, but the release where the version has none
+all_told : (version : Version) (values : Values (lines_of version)) → Has (lines_of version) values (with_all (lines_of version) values no_summary)
+all_told V1 values = (refl, (refl, (refl, (refl, (refl, (refl, tt))))))
+all_told V2 values = (refl, (refl, (refl, (refl, (refl, (refl, (refl, tt)))))))
+all_told V3 values = (refl, (refl, (refl, (refl, (refl, (refl, (refl, tt)))))))
 
--- five readings in turn, each of which gives a value
-all_read : {w : Result (Option ℕ) PlanTextError} {t l : Result ℕ PlanTextError} {c : Result (List ℕ) PlanTextError} {k : Result Closing PlanTextError}
-    (workers : Option ℕ) (total len : ℕ) (chain : List ℕ) (closing : Closing) → w ≡ Ok workers → t ≡ Ok total → l ≡ Ok len → c ≡ Ok chain → k ≡ Ok closing
-    → (do
-      workers ← w
-      total ← t
-      len ← l
-      chain ← c
-      closing ← k
-      Ok (with_closing workers total len chain closing)) ≡ Ok (with_closing workers total len chain closing)
-all_read workers total len chain closing w t l c k = rw (w, t, l, c, k) refl
+none_told : (version : Version) (values : Values (lines_of version)) → has_releases version ≡ false
+    → (with_all (lines_of version) values no_summary).totals.release ≡ 0
+none_told V1 values none = refl
+none_told V2 values none = absurd (cc)
+none_told V3 values none = absurd (cc)
 
-is_read : (version : Version) (messages at : ℕ) (rows : List Record) (summary : SummaryLines) → AreTexts rows → SpellsSummary version messages rows summary
-    → summary_of version messages at rows ≡ Ok summary
-unfolding summary_of
-is_read version messages at rows summary texts s =
-    let totals = summary.totals in
-    let end : List Record = release_line version s.release_text ++ (codes "cost" ∷ s.cost_text ∷ []) ∷ (codes "bound" ∷ s.left_text ∷ s.right_text ∷ []) ∷ [] in
-    let workers_row : Record = codes "workers" ∷ s.workers_text ∷ [] in
-    let total_row : Record = codes "total" ∷ s.total_text ∷ [] in
-    let length_row : Record = codes "length" ∷ s.length_text ∷ [] in
-    let chain_row : Record = codes "chain" ∷ s.chain_text ∷ [] in
-    let closing : Closing = record { release = totals.release; cost = totals.cost; left = totals.left; right = totals.right } in
-    let one : AreTexts (workers_row ∷ total_row ∷ length_row ∷ chain_row ∷ end) = subst AreTexts s.lines texts in
-    let two = other_texts workers_row (total_row ∷ length_row ∷ chain_row ∷ end) one in
-    let three = other_texts total_row (length_row ∷ chain_row ∷ end) two in
-    let four = other_texts length_row (chain_row ∷ end) three in
-    let five = other_texts chain_row end four in
-    let closes : SpellsClosing version end closing = record {
-      release_text = s.release_text;
-      cost_text = s.cost_text;
-      left_text = s.left_text;
-      right_text = s.right_text;
-      lines = refl;
-      release = s.release;
-      no_release = s.no_release;
-      cost = s.cost;
-      left = s.left;
-      right = s.right;
-    } in
-    ap (summary_of version messages at) s.lines
-    ∙ all_read summary.workers totals.total totals.length summary.chain closing
-    (ok_line workers_line at workers_row (total_row ∷ length_row ∷ chain_row ∷ end) summary.workers (first_text workers_row (total_row ∷ length_row ∷ chain_row ∷ end) one)
-    (ok_workers s.workers_text summary.workers s.workers))
-    (ok_line (tick_line (codes "total")) (at + 1) total_row (length_row ∷ chain_row ∷ end) totals.total (first_text total_row (length_row ∷ chain_row ∷ end) two)
-    (ok_tick (codes "total") s.total_text totals.total s.total))
-    (ok_line (tick_line (codes "length")) (at + 2) length_row (chain_row ∷ end) totals.length (first_text length_row (chain_row ∷ end) three)
-    (ok_tick (codes "length") s.length_text totals.length s.length))
-    (ok_line (chain_line messages) (at + 3) chain_row end summary.chain (first_text chain_row end four)
-    (ok_chain messages s.chain_text summary.chain s.chain s.listed))
-    (ok_closing version (at + 4) end closing five closes)
+all_copied : (version : Version) (whole : SummaryLines) → (has_releases version ≡ false → whole.totals.release ≡ 0)
+    → copied (lines_of version) whole no_summary ≡ whole
+all_copied V1 whole zero = ap (λ (n : ℕ). record whole { totals = record whole.totals { release = n } }) (sym (zero refl))
+all_copied V2 whole zero = refl
+all_copied V3 whole zero = refl
+
+spelled : (version : Version) (messages at : ℕ) (rows : List Record) (summary : SummaryLines) → summary_of version messages at rows ≡ Ok summary
+    → SpellsSummary version messages rows summary
+spelled version messages at rows summary h =
+    let read = lines_ok messages (lines_of version) at rows no_summary summary h in
+    record {
+      lines = read.spelled summary (subst (Has (lines_of version) read.values) read.whole (all_told version read.values));
+      no_release = λ none. subst (λ (s : SummaryLines). s.totals.release ≡ 0) read.whole (none_told version read.values none);
+    }
 
 pub summary_is_exact : (version : Version) (messages at : ℕ) (records : List Record) (summary : SummaryLines) → SummaryIsExact version messages at records summary
-summary_is_exact version messages at records summary texts = (spelled version messages at records summary, is_read version messages at records summary texts)
+summary_is_exact version messages at records summary texts = (
+  spelled version messages at records summary,
+  λ spells.
+      ok_lines messages (lines_of version) at records no_summary summary texts spells.lines
+      ∙ ap Ok (all_copied version summary spells.no_release),
+)

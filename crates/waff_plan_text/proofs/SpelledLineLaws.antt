@@ -12,13 +12,16 @@ use Rattle.waff_parse.specs.Rows.{Record}
 use Rattle.waff_parse.specs.Texts.{number_of, number_within, parts}
 use Rattle.waff_parse.specs.Walks.{walk}
 use Rattle.waff_plan_text.specs.Fields.{is_dash, number_within_limit}
-use Rattle.waff_plan_text.specs.Refused.{bound, chain, refusal_of, tick, workers}
-use Rattle.waff_plan_text.specs.SpelledLines.{IsBoundLine, IsTickLine, LinesAreExact}
-use Rattle.waff_plan_text.specs.Summaries.{chain_line, chain_of, few, is_bound, link_of, links_of, same, sides_of, tick_of, value_of, workers_line, workers_of}
+use Rattle.waff_plan_text.specs.Refused.{refusal_of, refused}
+use Rattle.waff_plan_text.specs.SpelledLines.{IsBoundLine, IsLine, IsPair, IsSmall, LinesAreExact}
+use Rattle.waff_plan_text.specs.Summaries.{bound_line, chain_line, chain_of, few, is_bound, link_of, links_of, same, sides_of, tick_line, tick_of, value_of, workers_line, workers_of}
+use Rattle.waff_plan_text.specs.Table.{Told, line_name}
 use Rattle.waff_plan_text.specs.declared.refusal.Refusal.{Refusal}
 use Rattle.waff_plan_text.specs.declared.refusal.Refusal.TheVariants as refusal
+use Rattle.waff_plan_text.specs.declared.table.Line.{Line}
+use Rattle.waff_plan_text.specs.declared.table.Line.TheVariants.{Bound, Chain, Cost, Length, Release, Total, Workers}
 use Rattle.waff_plan_text.proofs.RowLaws.{number_some}
-use Rattle.waff_plan_text.proofs.SpelledLaws.{chain_ok, ok_bound, ok_chain, ok_limit, ok_tick, ok_value, ok_workers, value_ok, workers_ok}
+use Rattle.waff_plan_text.proofs.SpelledLaws.{chain_ok, ok_limit, ok_line, ok_value, value_ok, workers_ok}
 
 -- a reading that is refused as no line, and for nothing else
 abbrev SummaryOnly : {A : Type 0} → Result A Refusal → Type 0
@@ -75,16 +78,13 @@ large_number : (text : Field) (n : ℕ) → number_of text ≡ Some n → MAX_TI
 large_number text n is above = rw (is, le-ltb n 0 (omega arith), lt-ltb MAX_TICK n above) refl
 
 module _ (name : Field) (fields : Record) where
-  tick_accepts : (n : ℕ) → IsTickLine name fields n → n ≤ MAX_TICK → tick name fields ≡ None
-  tick_accepts n (text, is, number) within = ap (tick name) is ∙ ap refusal_of (ok_tick name text n (record { number = number; within = within }))
-
-  tick_large : (n : ℕ) → IsTickLine name fields n → MAX_TICK < n → tick name fields ≡ Some refusal.TooLarge
+  tick_large : (n : ℕ) → IsPair name (λ text. number_of text ≡ Some n) fields → MAX_TICK < n → refusal_of (tick_line name fields) ≡ Some refusal.TooLarge
   tick_large n (text, is, number) above =
       let some : is_some (number_of text) ≡ true = ap is_some number in
-      ap (tick name) is ∙ ap (λ r. refusal_of (r >>= tick_of)) (ok_value name text)
+      ap (λ (row : Record). refusal_of (tick_line name row)) is ∙ ap (λ r. refusal_of (r >>= tick_of)) (ok_value name text)
       ∙ ap (λ t. refusal_of (if t then number_within_limit text else Err refusal.Summary)) some ∙ ap refusal_of (large_number text n number above)
 
-  tick_none : ((n : ℕ) → IsTickLine name fields n → ⊥) → tick name fields ≡ Some refusal.Summary
+  tick_none : ((n : ℕ) → IsPair name (λ text. number_of text ≡ Some n) fields → ⊥) → refusal_of (tick_line name fields) ≡ Some refusal.Summary
   tick_none none = by (value_of name (two_of fields)) refl (value_only name (two_of fields))
     where
       number : (text : Field) → value_of name (two_of fields) ≡ Ok text → (t : Bool) → is_some (number_of text) ≡ t
@@ -99,11 +99,6 @@ module _ (name : Field) (fields : Record) where
       by (Ok text) is only = number text is (is_some (number_of text)) refl
 
 module _ (fields : Record) where
-  bound_accepts : (left right : ℕ) → IsBoundLine fields left right → left ≤ MAX_TICK → right ≤ MAX_TICK → bound fields ≡ None
-  bound_accepts left right (a, b, is, l, r) left_within right_within =
-      ap bound is
-      ∙ ap refusal_of (ok_bound a b left right (record { number = l; within = left_within }) (record { number = r; within = right_within }))
-
   sides_large : (a b : Field) (left right : ℕ) → number_of a ≡ Some left → number_of b ≡ Some right → (MAX_TICK < left) ⊎ (MAX_TICK < right)
       → sides_of a b ≡ Err refusal.TooLarge
   sides_large a b left right l r (inl above) = rw (large_number a left l above) refl
@@ -113,12 +108,12 @@ module _ (fields : Record) where
       by (inl over) = rw (large_number a left l over) refl
       by (inr within) = rw (ok_limit a left (record { number = l; within = within }), large_number b right r above) refl
 
-  bound_large : (left right : ℕ) → IsBoundLine fields left right → (MAX_TICK < left) ⊎ (MAX_TICK < right) → bound fields ≡ Some refusal.TooLarge
-  bound_large left right (a, b, is, l, r) above =
+  bound_large : (sides : ℕ × ℕ) → IsBoundLine fields sides → (MAX_TICK < sides.0) ⊎ (MAX_TICK < sides.1) → refusal_of (bound_line fields) ≡ Some refusal.TooLarge
+  bound_large sides (a, b, is, l, r) above =
       let shaped : is_bound (codes "bound") a b ≡ true = rw (l, r) refl in
-      ap bound is ∙ ap (λ t. refusal_of (if t then sides_of a b else Err refusal.Summary)) shaped ∙ ap refusal_of (sides_large a b left right l r above)
+      ap (λ (row : Record). refusal_of (bound_line row)) is ∙ ap (λ t. refusal_of (if t then sides_of a b else Err refusal.Summary)) shaped ∙ ap refusal_of (sides_large a b sides.0 sides.1 l r above)
 
-bound_none : (fields : Record) → ((left right : ℕ) → IsBoundLine fields left right → ⊥) → bound fields ≡ Some refusal.Summary
+bound_none : (fields : Record) → ((sides : ℕ × ℕ) → IsBoundLine fields sides → ⊥) → refusal_of (bound_line fields) ≡ Some refusal.Summary
 bound_none [] none = refl
 bound_none (a ∷ []) none = refl
 bound_none (a ∷ b ∷ []) none = refl
@@ -132,23 +127,51 @@ bound_none (a ∷ b ∷ c ∷ []) none = by (is_bound a b c) refl
         let two = and_parts (is_some (number_of b)) _ one.1 in
         let left = number_some (number_of b) two.0 in
         let right = number_some (number_of c) two.1 in
-        absurd (none left.0 right.0 (b, c, ap (λ n. n ∷ b ∷ c ∷ []) ((bytes_eq-Decides a (codes "bound")).0 one.0), left.1, right.1))
+        absurd (none (left.0, right.0) (b, c, ap (λ n. n ∷ b ∷ c ∷ []) ((bytes_eq-Decides a (codes "bound")).0 one.0), left.1, right.1))
 
-pub lines_are_exact : (messages : ℕ) (fields : Record) → LinesAreExact messages fields
-lines_are_exact messages fields = record {
-  tick_line = λ name. tick_accepts name fields;
-  tick_large = λ name. tick_large name fields;
-  tick_none = λ name. tick_none name fields;
-  workers_line = λ number (text, is, field). ap workers is ∙ ap refusal_of (ok_workers text number field);
-  workers_none = λ none.
-      none_read (workers_line fields) (then_only (value_of (codes "workers") (two_of fields)) workers_of (value_only (codes "workers") (two_of fields)) workers_only)
-      (λ number read. none number (workers_ok fields number read));
-  chain_line = λ numbers (text, is, are, listed). ap (chain messages) is ∙ ap refusal_of (ok_chain messages text numbers are listed);
-  chain_none = λ none.
-      none_read (chain_line messages fields)
-      (then_only (value_of (codes "chain") (two_of fields)) (chain_of messages) (value_only (codes "chain") (two_of fields)) (chain_only messages))
-      (λ numbers read. none numbers (chain_ok messages fields numbers read));
-  bound_line = bound_accepts fields;
-  bound_large = bound_large fields;
-  bound_none = bound_none fields;
+-- what is not within the limit is above it
+above : (n : ℕ) → (n ≤ MAX_TICK → ⊥) → MAX_TICK < n
+above n not = by (cases_lt MAX_TICK n)
+  where
+    by : (MAX_TICK < n) ⊎ (n ≤ MAX_TICK) → MAX_TICK < n
+    by (inl over) = over
+    by (inr within) = absurd (not within)
+
+one_above : (left right : ℕ) → ((left ≤ MAX_TICK) × (right ≤ MAX_TICK) → ⊥) → (MAX_TICK < left) ⊎ (MAX_TICK < right)
+one_above left right not = by (cases_lt MAX_TICK left)
+  where
+    by : (MAX_TICK < left) ⊎ (left ≤ MAX_TICK) → (MAX_TICK < left) ⊎ (MAX_TICK < right)
+    by (inl over) = inl over
+    by (inr within) = inr (above right (λ other. not (within, other)))
+
+line_large : (messages : ℕ) (line : Line) (fields : Record) (value : Told line) → IsLine messages line fields value → (IsSmall line value → ⊥)
+    → refused messages line fields ≡ Some refusal.TooLarge
+line_large messages Workers fields workers is not = absurd (not tt)
+line_large messages Total fields n is not = tick_large (line_name Total) fields n is (above n not)
+line_large messages Length fields n is not = tick_large (line_name Length) fields n is (above n not)
+line_large messages Chain fields chain is not = absurd (not tt)
+line_large messages Release fields n is not = tick_large (line_name Release) fields n is (above n not)
+line_large messages Cost fields n is not = tick_large (line_name Cost) fields n is (above n not)
+line_large messages Bound fields sides is not = bound_large fields sides is (one_above sides.0 sides.1 not)
+
+no_line : (messages : ℕ) (line : Line) (fields : Record) → ((value : Told line) → IsLine messages line fields value → ⊥)
+    → refused messages line fields ≡ Some refusal.Summary
+no_line messages Workers fields none =
+    none_read (workers_line fields) (then_only (value_of (codes "workers") (two_of fields)) workers_of (value_only (codes "workers") (two_of fields)) workers_only)
+    (λ number read. none number (workers_ok fields number read))
+no_line messages Total fields none = tick_none (line_name Total) fields none
+no_line messages Length fields none = tick_none (line_name Length) fields none
+no_line messages Chain fields none =
+    none_read (chain_line messages fields)
+    (then_only (value_of (codes "chain") (two_of fields)) (chain_of messages) (value_only (codes "chain") (two_of fields)) (chain_only messages))
+    (λ numbers read. let is = chain_ok messages fields numbers read in none numbers (is.0, is.1, (is.2, is.3)))
+no_line messages Release fields none = tick_none (line_name Release) fields none
+no_line messages Cost fields none = tick_none (line_name Cost) fields none
+no_line messages Bound fields none = bound_none fields none
+
+pub lines_are_exact : (messages : ℕ) (line : Line) (fields : Record) → LinesAreExact messages line fields
+lines_are_exact messages line fields = record {
+  accepted = λ value is small. ap refusal_of (ok_line messages line fields value is small);
+  large = line_large messages line fields;
+  none = no_line messages line fields;
 }

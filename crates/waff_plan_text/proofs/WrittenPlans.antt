@@ -1,8 +1,8 @@
 -- A plan is read from the text that is written of it: its lines spell the plan.
-use Rattle.std.proofs.Common.{◌≡◌, ℕ, zero, suc, ◌+◌, ◌<◌, ◌≤◌, ◌^◌, List, [], ◌∷◌, ◌++◌, length, map, drop, Bool, true, false, Option, Some, None, Ok, IfSome, refl, sym, ap, ◌∙◌, subst, arith, inl, inr, slice_get}
-use Rattle.std.specs.Prelude.{All, Contains, codes, ◌-◌, if◌then◌else◌}
+use Rattle.std.proofs.Common.{◌≡◌, ℕ, ◌+◌, ◌<◌, ◌≤◌, ◌^◌, List, [], ◌∷◌, ◌++◌, length, map, drop, true, false, Option, Some, None, Ok, IfSome, refl, sym, ap, ◌∙◌, subst, arith, inl, inr, slice_get}
+use Rattle.std.specs.Prelude.{All, Contains, codes, ◌-◌}
 use Rattle.std.specs.Fmt.{decimal}
-use Rattle.std.specs.List.{flat_map, list_all, range_with_len}
+use Rattle.std.specs.List.{flat_map, list_all}
 use Rattle.std.proofs.lemmas.Bool.{and_parts}
 use Rattle.std.proofs.lemmas.Bool.Decides.{nat_tests}
 use Rattle.std.proofs.lemmas.Fmt.{decimal_nonempty}
@@ -24,7 +24,7 @@ use Rattle.waff_plan.specs.Totals.{totals_of}
 use Rattle.waff_plan.specs.Work.{Work, IsNumber, finish_of, numbers}
 use Rattle.waff_plan.specs.declared.totals.Totals.{Totals}
 use Rattle.waff_parse.specs.Fields.{Field}
-use Rattle.waff_parse.specs.Rows.{Record, is_text, records_of}
+use Rattle.waff_parse.specs.Rows.{Record, records_of}
 use Rattle.waff_parse.specs.Texts.{number_of}
 use Rattle.waff_parse.proofs.WrittenRows.{IsBare, IsSimple, all_if, bare_is_text, decimal_differs, is_simple, number_of-decimal, parts-numbers, records_of-rows, simple_decimal, simple_literal, simple_numbers}
 use Rattle.waff_plan_text.specs.Exact.{HasOneRow, IsReadAs, IsRowIn, rows_in_front}
@@ -33,9 +33,13 @@ use Rattle.waff_plan_text.specs.Laws.{AreTotals, IsRow, WrittenIsRead, plan_told
 use Rattle.waff_plan_text.specs.Lines.{text_of}
 use Rattle.waff_plan_text.specs.PlanTexts.{header_of}
 use Rattle.waff_plan_text.specs.Refused.{HasSmallNumbers, IsRowOf, IsWorkerField, summary_in}
-use Rattle.waff_plan_text.specs.SpelledSummaries.{AreNumbers, IsTick, IsWorkersField, SpellsSummary}
-use Rattle.waff_plan_text.specs.Spelling.{message_row, numbers_field, plan_header, plan_row, release_line, summary_lines, worker_field}
+use Rattle.waff_plan_text.specs.SpelledLines.{AreNumbers, IsPair, IsWorkersField}
+use Rattle.waff_plan_text.specs.SpelledSummaries.{AreLinesOf, IsLineOf, SpellsSummary}
+use Rattle.waff_plan_text.specs.Spelling.{message_row, numbers_field, plan_header, plan_row, summary_line, summary_lines, worker_field}
 use Rattle.waff_plan_text.specs.Summaries.{begins_summary}
+use Rattle.waff_plan_text.specs.Table.{line_name, lines_of}
+use Rattle.waff_plan_text.specs.declared.table.Line.{Line}
+use Rattle.waff_plan_text.specs.declared.table.Line.TheVariants.{Bound, Chain, Cost, Length, Release, Total, Workers}
 use Rattle.waff_plan_text.specs.declared.row.Row.{Row}
 use Rattle.waff_plan_text.proofs.ExactLaws.{plan_is_exact}
 use Rattle.waff_plan_text.proofs.PlaceLaws.{place_of}
@@ -224,93 +228,65 @@ chain_told messages (m ∷ more) few_messages each =
     all_told (n ∷ more) small =
         rw (number_of-decimal n (All-head (λ m. m < 2 ^ 64) n more small), all_told more (All-tail (λ m. m < 2 ^ 64) n more small)) refl
 
--- the lines of a summary call for no quotes
-simple_tick : (name : Field) (n : ℕ) → list_all is_simple name ≡ true → n ≤ MAX_TICK → All IsSimple (name ∷ decimal n ∷ [])
-simple_tick name n named within = two name (decimal n) (simple_literal name named) (simple_decimal n (small_tick n within))
+-- the lines of a summary spell it, and call for no quotes
+module _ (version : Version) (messages : ℕ) (workers : Option ℕ) (chain : List ℕ) (totals : Totals)
+    (few_messages : messages ≤ MAX_MESSAGES) (known : IfSome workers IsWorkers) (listed : IsListed messages chain) (within : AreTotals version totals) where
+  abbrev summary : SummaryLines
+  summary = record { workers = workers; chain = chain; totals = totals }
 
-simple_bound : (left right : ℕ) → left ≤ MAX_TICK → right ≤ MAX_TICK → All IsSimple (codes "bound" ∷ decimal left ∷ decimal right ∷ [])
-simple_bound left right left_within right_within =
-    three (codes "bound") (decimal left) (decimal right) (simple_literal (codes "bound") refl) (simple_decimal left (small_tick left left_within))
-    (simple_decimal right (small_tick right right_within))
+  number_told : (name : Field) (n : ℕ) → n ≤ MAX_TICK → IsPair name (λ text. number_of text ≡ Some n) (name ∷ decimal n ∷ []) × (n ≤ MAX_TICK)
+  number_told name n small = ((decimal n, refl, tick_told n small), small)
 
-simple_workers : (workers : Option ℕ) → IfSome workers IsWorkers → All IsSimple (codes "workers" ∷ worker_field workers ∷ [])
-simple_workers workers is = two (codes "workers") (worker_field workers) (simple_literal (codes "workers") refl) (simple_worker workers (small workers is))
-  where
-    small : (workers : Option ℕ) → IfSome workers IsWorkers → IfSome workers (λ k. k < 2 ^ 64)
-    small None is = tt
-    small (Some k) is = let to : k ≤ MAX_WORKERS = is.to in omega arith
+  line_told : (line : Line) → IsLineOf messages summary line (summary_line summary line)
+  line_told Workers = ((worker_field workers, refl, workers_told workers known), tt)
+  line_told Total = number_told (line_name Total) totals.total within.total
+  line_told Length = number_told (line_name Length) totals.length within.length
+  line_told Chain = ((numbers_field chain, refl, (chain_told messages chain few_messages listed.each, listed)), tt)
+  line_told Release = number_told (line_name Release) totals.release within.release
+  line_told Cost = number_told (line_name Cost) totals.cost within.cost
+  line_told Bound =
+      ((decimal totals.left, decimal totals.right, refl, tick_told totals.left within.left, tick_told totals.right within.right), (within.left, within.right))
 
-simple_chain : (messages : ℕ) (chain : List ℕ) → messages ≤ MAX_MESSAGES → IsListed messages chain → All IsSimple (codes "chain" ∷ numbers_field chain ∷ [])
-simple_chain messages chain few_messages listed =
-    two (codes "chain") (numbers_field chain) (simple_literal (codes "chain") refl)
-    (simple_numbers 32 refl chain (small_chain messages chain few_messages listed.each))
+  lines_told : (lines : List Line) → AreLinesOf messages summary lines (map (summary_line summary) lines)
+  lines_told [] = tt
+  lines_told (line ∷ lines) = (line_told line, lines_told lines)
 
-module _ (totals : Totals) where
-  -- the last two lines
-  abbrev last_lines : List Record
-  last_lines = (codes "cost" ∷ decimal totals.cost ∷ []) ∷ (codes "bound" ∷ decimal totals.left ∷ decimal totals.right ∷ []) ∷ []
-
-  summary_told : (version : Version) (messages : ℕ) (workers : Option ℕ) (chain : List ℕ) → messages ≤ MAX_MESSAGES → IfSome workers IsWorkers
-      → IsListed messages chain → AreTotals version totals
-      → SpellsSummary version messages (summary_lines version (worker_field workers) chain totals) (record { workers = workers; chain = chain; totals = totals })
-  summary_told version messages workers chain few_messages is listed within = record {
-    workers_text = worker_field workers;
-    total_text = decimal totals.total;
-    length_text = decimal totals.length;
-    chain_text = numbers_field chain;
-    release_text = decimal totals.release;
-    cost_text = decimal totals.cost;
-    left_text = decimal totals.left;
-    right_text = decimal totals.right;
-    lines = refl;
-    workers = workers_told workers is;
-    total = spelled totals.total within.total;
-    length = spelled totals.length within.length;
-    chain = chain_told messages chain few_messages listed.each;
-    listed = listed;
-    release = λ some. spelled totals.release within.release;
-    no_release = λ none. within.no_release (first_version version none);
-    cost = spelled totals.cost within.cost;
-    left = spelled totals.left within.left;
-    right = spelled totals.right within.right;
-  }
+  summary_told : SpellsSummary version messages (summary_lines version workers chain totals) summary
+  unfolding summary_lines
+  summary_told = record { lines = lines_told (lines_of version); no_release = λ none. within.no_release (first_version version none) }
     where
-      spelled : (n : ℕ) → n ≤ MAX_TICK → IsTick (decimal n) n
-      spelled n within = record { number = tick_told n within; within = within }
-
       first_version : (version : Version) → has_releases version ≡ false → version ≡ V1
       first_version V1 none = refl
       first_version V2 none = absurd (cc)
       first_version V3 none = absurd (cc)
 
-  bare_last : (version : Version) → AreTotals version totals → All IsBare last_lines
-  bare_last version within =
-      All-cons IsBare (codes "cost" ∷ decimal totals.cost ∷ []) ((codes "bound" ∷ decimal totals.left ∷ decimal totals.right ∷ []) ∷ [])
-      (record { some = omega arith; each = simple_tick (codes "cost") totals.cost refl within.cost })
-      (All-cons IsBare (codes "bound" ∷ decimal totals.left ∷ decimal totals.right ∷ []) []
-      (record { some = omega arith; each = simple_bound totals.left totals.right within.left within.right }) (All-nil IsBare))
+  small_workers : (workers : Option ℕ) → IfSome workers IsWorkers → IfSome workers (λ k. k < 2 ^ 64)
+  small_workers None is = tt
+  small_workers (Some k) is = let to : k ≤ MAX_WORKERS = is.to in omega arith
 
-  bare_closing : (version : Version) → AreTotals version totals → All IsBare (release_line version (decimal totals.release) ++ last_lines)
-  bare_closing version within = by (has_releases version)
-    where
-      by : (t : Bool) → All IsBare ((if t then (codes "release" ∷ decimal totals.release ∷ []) ∷ [] else []) ++ last_lines)
-      by false = bare_last version within
-      by true =
-          All-cons IsBare (codes "release" ∷ decimal totals.release ∷ []) last_lines
-          (record { some = omega arith; each = simple_tick (codes "release") totals.release refl within.release }) (bare_last version within)
+  bare_pair : (name text : Field) → list_all is_simple name ≡ true → IsSimple text → IsBare (name ∷ text ∷ [])
+  bare_pair name text named simple = record { some = omega arith; each = two name text (simple_literal name named) simple }
 
-  bare_summary : (version : Version) (messages : ℕ) (workers : Option ℕ) (chain : List ℕ) → messages ≤ MAX_MESSAGES → IfSome workers IsWorkers
-      → IsListed messages chain → AreTotals version totals → All IsBare (summary_lines version (worker_field workers) chain totals)
-  bare_summary version messages workers chain few_messages is listed within =
-      let closing : List Record = release_line version (decimal totals.release) ++ last_lines in
-      let chain_row : Record = codes "chain" ∷ numbers_field chain ∷ [] in
-      let length_row : Record = codes "length" ∷ decimal totals.length ∷ [] in
-      let total_row : Record = codes "total" ∷ decimal totals.total ∷ [] in
-      let workers_row : Record = codes "workers" ∷ worker_field workers ∷ [] in
-      All-cons IsBare workers_row (total_row ∷ length_row ∷ chain_row ∷ closing) (record { some = omega arith; each = simple_workers workers is })
-      (All-cons IsBare total_row (length_row ∷ chain_row ∷ closing) (record { some = omega arith; each = simple_tick (codes "total") totals.total refl within.total })
-      (All-cons IsBare length_row (chain_row ∷ closing) (record { some = omega arith; each = simple_tick (codes "length") totals.length refl within.length })
-      (All-cons IsBare chain_row closing (record { some = omega arith; each = simple_chain messages chain few_messages listed }) (bare_closing version within))))
+  bare_number : (name : Field) (n : ℕ) → list_all is_simple name ≡ true → n ≤ MAX_TICK → IsBare (name ∷ decimal n ∷ [])
+  bare_number name n named small = bare_pair name (decimal n) named (simple_decimal n (small_tick n small))
+
+  bare_line : (line : Line) → IsBare (summary_line summary line)
+  bare_line Workers = bare_pair (line_name Workers) (worker_field workers) refl (simple_worker workers (small_workers workers known))
+  bare_line Total = bare_number (line_name Total) totals.total refl within.total
+  bare_line Length = bare_number (line_name Length) totals.length refl within.length
+  bare_line Chain =
+      bare_pair (line_name Chain) (numbers_field chain) refl (simple_numbers 32 refl chain (small_chain messages chain few_messages listed.each))
+  bare_line Release = bare_number (line_name Release) totals.release refl within.release
+  bare_line Cost = bare_number (line_name Cost) totals.cost refl within.cost
+  bare_line Bound = record {
+    some = omega arith;
+    each = three (line_name Bound) (decimal totals.left) (decimal totals.right) (simple_literal (line_name Bound) refl)
+        (simple_decimal totals.left (small_tick totals.left within.left)) (simple_decimal totals.right (small_tick totals.right within.right));
+  }
+
+  bare_lines : (lines : List Line) → All IsBare (map (summary_line summary) lines)
+  bare_lines [] = All-nil IsBare
+  bare_lines (line ∷ lines) = All-cons IsBare (summary_line summary line) (map (summary_line summary) lines) (bare_line line) (bare_lines lines)
 
 -- a text that begins with the header begins with no byte order mark
 no_mark : (rows : List Record) → strip_bom (text_of (plan_header ∷ rows)) ≡ text_of (plan_header ∷ rows)
@@ -319,13 +295,13 @@ no_mark rows = refl
 
 pub written_is_read : (version : Version) (tree : List Node) (assigned : List ℕ) (work : Work) (workers : Option ℕ) (start : ℕ → ℕ) (worker : ℕ → Option ℕ)
     (chain : List ℕ) → WrittenIsRead version tree assigned work workers start worker chain
-unfolding line told lines
+unfolding line told lines summary_lines
 written_is_read version tree assigned work workers start worker chain tellable =
     let totals = totals_of workers work start chain in
-    let summary : List Record = summary_lines version (worker_field workers) chain totals in
+    let summary : List Record = summary_lines version workers chain totals in
     let rows : List Record = map (message_row tree assigned work start worker) (numbers work) in
     let records : List Record = plan_header ∷ rows ++ summary in
-    let bare_end = bare_summary totals version work.count workers chain tellable.few tellable.known tellable.listed tellable.totals in
+    let bare_end = bare_lines version work.count workers chain totals tellable.few tellable.known tellable.listed tellable.totals (lines_of version) in
     let bare : All IsBare (rows ++ summary) = All-append IsBare rows summary
     (all_lines version tree assigned work start worker tellable.few tellable.rows IsBare
     (line_is_bare version tree assigned work start worker tellable.few tellable.rows)) bare_end in
@@ -339,7 +315,7 @@ written_is_read version tree assigned work workers start worker chain tellable =
       rows = rw front.0 (lines_are_rows version tree assigned work start worker tellable.few tellable.rows);
       once = rw front.0 (one_line version tree assigned work start worker tellable.few tellable.rows);
       count = length-map-range_with_len (row_told tree assigned work start worker) 1 work.count;
-      summary = rw front.1 (summary_told totals version work.count workers chain tellable.few tellable.known tellable.listed tellable.totals);
+      summary = rw front.1 (summary_told version work.count workers chain totals tellable.few tellable.known tellable.listed tellable.totals);
       of_version = refl;
     } in
     let headed : header_of records ≡ Ok tt = rw (bare_is_text plan_header simple_header) refl in

@@ -1,6 +1,7 @@
 pub mod Lines
 pub mod Spelling
 pub mod Given
+pub mod Table
 pub mod Rows
 pub mod Fields
 pub mod Summaries

@@ -1,5 +1,5 @@
 -- What a read of the next record gives.
-use Rattle.std.specs.Prelude.{◌≡◌, ◌⊎◌, ℕ, Bool, true, false, List, [], ◌∷◌, Result, Ok, Err}
+use Rattle.std.specs.Prelude.{◌≡◌, ℕ, Bool, true, false, List, [], ◌∷◌, Result, Ok, Err}
 use Rattle.waff_parse.specs.Rows.{Record, is_text}
 use Rattle.waff_parse.specs.declared.stop.Stop.{Stop}
 use Rattle.waff_parse.specs.declared.stop.Stop.TheVariants as stop
@@ -19,14 +19,3 @@ GivesRecord at (Ok true) left row others = (left ≡ row ∷ others) × (is_text
 GivesRecord at (Ok false) left row others = left ≡ []
 GivesRecord at (Err stop.Memory) left row others = Unit {0}
 GivesRecord at (Err (stop.Fault e)) left row others = TellsNoText at e left
-
--- no record is left, and the error tells that a line of the summary is missing
-abbrev pub TellsNoLine : ℕ → PlanTextError → List Record → Type 0
-TellsNoLine at e left = (left ≡ []) × (e ≡ error.Summary at)
-
--- the same where a record has to be there
-abbrev pub GivesLine : ℕ → Result (Unit {0}) (Stop PlanTextError)
-    → List Record → Record → List Record → Type 0
-GivesLine at (Ok done) left row others = (left ≡ row ∷ others) × (is_text row ≡ true)
-GivesLine at (Err stop.Memory) left row others = Unit {0}
-GivesLine at (Err (stop.Fault e)) left row others = TellsNoText at e left ⊎ TellsNoLine at e left

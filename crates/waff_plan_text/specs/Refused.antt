@@ -6,19 +6,19 @@ use Rattle.std.specs.Prelude.{IsSome, Result, Ok, Err, slice_get, codes}
 use Rattle.waff_model.specs.Names.{is_name}
 use Rattle.waff_model.specs.declared.limits.TheConstants.{MAX_TICK}
 use Rattle.waff_model.specs.declared.message.Version.{Version}
-use Rattle.waff_model.specs.Versions.{has_releases}
 use Rattle.waff_parse.specs.Fields.{Field, five_of}
 use Rattle.waff_parse.specs.Rows.{Record, is_text, records_of}
 use Rattle.waff_parse.specs.Texts.{number_of}
 use Rattle.waff_plan_text.specs.PlanTexts.{header_of, plan_of}
 use Rattle.waff_plan_text.specs.Rows.{IsWithinLimit}
-use Rattle.waff_plan_text.specs.Summaries.{begins_summary, bound_line, chain_line, tick_line}
-use Rattle.waff_plan_text.specs.Summaries.{workers_line}
+use Rattle.waff_plan_text.specs.Summaries.{begins_summary, read_line}
+use Rattle.waff_plan_text.specs.Table.{lines_of}
 use Rattle.waff_plan_text.specs.declared.refusal.PlanTextError.{PlanTextError}
 use Rattle.waff_plan_text.specs.declared.refusal.PlanTextError.TheVariants as error
 use Rattle.waff_plan_text.specs.declared.refusal.Refusal.{Refusal}
 use Rattle.waff_plan_text.specs.declared.refusal.Refusal.TheVariants as refusal
 use Rattle.waff_plan_text.specs.declared.row.Row.{Row}
+use Rattle.waff_plan_text.specs.declared.table.Line.{Line}
 
 -- a worker's field: a dash for none, or a number
 abbrev pub IsWorkerField : Field → Option ℕ → Type 0
@@ -72,36 +72,13 @@ abbrev pub refusal_of : {F A : Type 0} → Result A F → Option F
 refusal_of (Ok value) = None
 refusal_of (Err e) = Some e
 
--- a line of a summary, as what is refused of the record that has to be it
-abbrev pub Line : Type 0
-Line = Record → Option Refusal
-
-abbrev pub tick : Field → Line
-tick name row = refusal_of (tick_line name row)
-
-abbrev pub workers : Line
-workers row = refusal_of (workers_line row)
-
-abbrev pub chain : ℕ → Line
-chain messages row = refusal_of (chain_line messages row)
-
-abbrev pub bound : Line
-bound row = refusal_of (bound_line row)
-
--- the lines behind the chain: that of the release, where the version has releases, and the last two
-abbrev pub closing_lines : Version → List Line
-closing_lines version =
-    (if has_releases version then tick (codes "release") ∷ [] else [])
-    ++ tick (codes "cost") ∷ bound ∷ []
-
--- the lines of a summary in their order
-abbrev pub lines_of : Version → ℕ → List Line
-lines_of version messages =
-    workers ∷ tick (codes "total") ∷ tick (codes "length") ∷ chain messages ∷ closing_lines version
+-- why a record is refused as this line, if it is
+abbrev pub refused : ℕ → Line → Record → Option Refusal
+refused messages line row = refusal_of (read_line messages line row)
 
 -- the line that comes next after these records, if the summary has one more
-abbrev pub next_of : Version → ℕ → List Record → Option Line
-next_of version messages before = slice_get (lines_of version messages) (length (summary_in before))
+abbrev pub next_of : Version → List Record → Option Line
+next_of version before = slice_get (lines_of version) (length (summary_in before))
 
 -- a record behind these stands before the summary, or in it
 abbrev pub IsAmongRows : List Record → Record → Type 0
@@ -110,15 +87,15 @@ IsAmongRows before fields = summary_in (before ++ fields ∷ []) ≡ []
 abbrev pub IsInSummary : List Record → Record → Type 0
 IsInSummary before fields = 1 ≤ length (summary_in (before ++ fields ∷ []))
 
--- a record is refused for this by the line that it has to be; where no line is left it is one too
+-- a record is refused for this as the line that it has to be; where no line is left it is one too
 -- many
-abbrev pub IsNotLine : Option Line → Record → Type 0
-IsNotLine None fields = Unit {0}
-IsNotLine (Some line) fields = line fields ≡ Some refusal.Summary
+abbrev pub IsNotLine : ℕ → Option Line → Record → Type 0
+IsNotLine messages None fields = Unit {0}
+IsNotLine messages (Some line) fields = refused messages line fields ≡ Some refusal.Summary
 
-abbrev pub IsTooLargeLine : Option Line → Record → Type 0
-IsTooLargeLine None fields = ⊥
-IsTooLargeLine (Some line) fields = line fields ≡ Some refusal.TooLarge
+abbrev pub IsTooLargeLine : ℕ → Option Line → Record → Type 0
+IsTooLargeLine messages None fields = ⊥
+IsTooLargeLine messages (Some line) fields = refused messages line fields ≡ Some refusal.TooLarge
 
 -- a record is a row of a message, with a number above the limit
 abbrev pub IsTooLargeRow : ℕ → Record → Type 0
@@ -143,11 +120,11 @@ HoldsOf version messages before fields (error.Twice at) =
     × ((n : ℕ) × (row : Row) × IsRowOf messages fields n row × HasRow messages before n)
 HoldsOf version messages before fields (error.Summary at) =
     (at ≡ number_behind before) × IsInSummary before fields
-    × IsNotLine (next_of version messages before) fields
+    × IsNotLine messages (next_of version before) fields
 HoldsOf version messages before fields (error.TooLarge at) =
     (at ≡ number_behind before)
     × ((IsAmongRows before fields × IsTooLargeRow messages fields)
-    ⊎ (IsInSummary before fields × IsTooLargeLine (next_of version messages before) fields))
+    ⊎ (IsInSummary before fields × IsTooLargeLine messages (next_of version before) fields))
 HoldsOf version messages before fields _ = ⊥
 
 -- and of the end behind these records, which counts as one more record: a row is missing, or a line
@@ -156,7 +133,7 @@ abbrev pub HoldsAtEnd : Version → ℕ → List Record → PlanTextError → Ty
 HoldsAtEnd version messages before (error.Missing message) =
     (summary_in before ≡ []) × IsMissing messages before message
 HoldsAtEnd version messages before (error.Summary at) =
-    (at ≡ number_behind before) × IsSome (next_of version messages before)
+    (at ≡ number_behind before) × IsSome (next_of version before)
 HoldsAtEnd version messages before _ = ⊥
 
 -- the check of this error holds of what is behind these records: one more, or the end

@@ -1,54 +1,59 @@
 -- One line of a summary, in the words of the format: which record is one, and which is refused for
 -- what.
-use Rattle.std.specs.Prelude.{◌≡◌, ◌⊎◌, ℕ, ◌<◌, ◌≤◌, List, [], ◌∷◌, Option, Some, None, codes}
+use Rattle.std.specs.Prelude.{◌≡◌, ◌≢◌, ◌⊎◌, ℕ, ◌≤◌, List, [], ◌∷◌, map, Option, Some, None, codes}
 use Rattle.waff_model.specs.declared.limits.TheConstants.{MAX_TICK}
 use Rattle.waff_parse.specs.Fields.{Field}
 use Rattle.waff_parse.specs.Rows.{Record}
-use Rattle.waff_parse.specs.Texts.{number_of}
+use Rattle.waff_parse.specs.Texts.{number_of, parts}
+use Rattle.waff_plan.specs.Bound.{IsWorkers}
 use Rattle.waff_plan.specs.Chain.{IsListed}
-use Rattle.waff_plan_text.specs.Refused.{bound, chain, tick, workers}
-use Rattle.waff_plan_text.specs.SpelledSummaries.{AreNumbers, IsWorkersField}
+use Rattle.waff_plan_text.specs.Refused.{refused}
+use Rattle.waff_plan_text.specs.Table.{Told, line_name}
 use Rattle.waff_plan_text.specs.declared.refusal.Refusal.TheVariants as refusal
+use Rattle.waff_plan_text.specs.declared.table.Line.{Line}
+use Rattle.waff_plan_text.specs.declared.table.Line.TheVariants.{Bound, Chain, Workers}
 
--- a record is the line of this name and number, which may have any length
-abbrev pub IsTickLine : Field → Record → ℕ → Type 0
-IsTickLine name fields n = (text : Field) × (fields ≡ name ∷ text ∷ []) × (number_of text ≡ Some n)
+-- a field writes the number of workers: a dash for none
+abbrev pub IsWorkersField : Field → Option ℕ → Type 0
+IsWorkersField text None = text ≡ codes "-"
+IsWorkersField text (Some k) = (number_of text ≡ Some k) × IsWorkers k
 
--- the line of the workers, of the chain, of the bound
-abbrev pub IsWorkersLine : Record → Option ℕ → Type 0
-IsWorkersLine fields number =
-    (text : Field) × (fields ≡ codes "workers" ∷ text ∷ []) × IsWorkersField text number
+-- a field writes numbers joined by one space; nothing for none
+abbrev pub AreNumbers : Field → List ℕ → Type 0
+AreNumbers text numbers = ((text ≡ []) × (numbers ≡ []))
+    ⊎ ((text ≢ []) × (map number_of (parts 32 text) ≡ map Some numbers))
 
-abbrev pub IsChainLine : ℕ → Record → List ℕ → Type 0
-IsChainLine messages fields numbers =
-    (text : Field) × (fields ≡ codes "chain" ∷ text ∷ [])
-    × AreNumbers text numbers × IsListed messages numbers
+-- a record has this name and one field behind it, which writes a value
+abbrev pub IsPair : Field → (Field → Type 0) → Record → Type 0
+IsPair name Writes fields = (text : Field) × (fields ≡ name ∷ text ∷ []) × Writes text
 
-abbrev pub IsBoundLine : Record → ℕ → ℕ → Type 0
-IsBoundLine fields left right =
-    (left_text : Field) × (right_text : Field)
-    × (fields ≡ codes "bound" ∷ left_text ∷ right_text ∷ [])
-    × (number_of left_text ≡ Some left) × (number_of right_text ≡ Some right)
+abbrev pub IsBoundLine : Record → ℕ × ℕ → Type 0
+IsBoundLine fields sides =
+    (left : Field) × (right : Field) × (fields ≡ line_name Bound ∷ left ∷ right ∷ [])
+    × (number_of left ≡ Some sides.0) × (number_of right ≡ Some sides.1)
 
--- a record is accepted as a line where it is that line, within the limit; refused for its number
+-- a record is this line, which tells this, also above the limit
+abbrev pub IsLine : ℕ → (line : Line) → Record → Told line → Type 0
+IsLine messages Workers fields workers =
+    IsPair (line_name Workers) (λ text. IsWorkersField text workers) fields
+IsLine messages Chain fields chain =
+    IsPair (line_name Chain) (λ text. AreNumbers text chain × IsListed messages chain) fields
+IsLine messages Bound fields sides = IsBoundLine fields sides
+IsLine messages line fields n = IsPair (line_name line) (λ text. number_of text ≡ Some n) fields
+
+-- what a line tells is within the limit
+abbrev pub IsSmall : (line : Line) → Told line → Type 0
+IsSmall Workers workers = Unit {0}
+IsSmall Chain chain = Unit {0}
+IsSmall Bound sides = (sides.0 ≤ MAX_TICK) × (sides.1 ≤ MAX_TICK)
+IsSmall _ n = n ≤ MAX_TICK
+
+-- a record is accepted as a line where it is that line, within the limit; refused for a number
 -- where that is above it; and refused as no line where it is none
-pub record LinesAreExact (messages : ℕ) (fields : Record) : Type 0 where
-  pub tick_line : (name : Field) (n : ℕ) → IsTickLine name fields n
-      → n ≤ MAX_TICK → tick name fields ≡ None
-  pub tick_large : (name : Field) (n : ℕ) → IsTickLine name fields n
-      → MAX_TICK < n → tick name fields ≡ Some refusal.TooLarge
-  pub tick_none : (name : Field) → ((n : ℕ) → IsTickLine name fields n → ⊥)
-      → tick name fields ≡ Some refusal.Summary
-  pub workers_line : (number : Option ℕ) → IsWorkersLine fields number → workers fields ≡ None
-  pub workers_none : ((number : Option ℕ) → IsWorkersLine fields number → ⊥)
-      → workers fields ≡ Some refusal.Summary
-  pub chain_line : (numbers : List ℕ) → IsChainLine messages fields numbers
-      → chain messages fields ≡ None
-  pub chain_none : ((numbers : List ℕ) → IsChainLine messages fields numbers → ⊥)
-      → chain messages fields ≡ Some refusal.Summary
-  pub bound_line : (left right : ℕ) → IsBoundLine fields left right
-      → left ≤ MAX_TICK → right ≤ MAX_TICK → bound fields ≡ None
-  pub bound_large : (left right : ℕ) → IsBoundLine fields left right
-      → (MAX_TICK < left) ⊎ (MAX_TICK < right) → bound fields ≡ Some refusal.TooLarge
-  pub bound_none : ((left right : ℕ) → IsBoundLine fields left right → ⊥)
-      → bound fields ≡ Some refusal.Summary
+pub record LinesAreExact (messages : ℕ) (line : Line) (fields : Record) : Type 0 where
+  pub accepted : (value : Told line) → IsLine messages line fields value → IsSmall line value
+      → refused messages line fields ≡ None
+  pub large : (value : Told line) → IsLine messages line fields value → (IsSmall line value → ⊥)
+      → refused messages line fields ≡ Some refusal.TooLarge
+  pub none : ((value : Told line) → IsLine messages line fields value → ⊥)
+      → refused messages line fields ≡ Some refusal.Summary

@@ -1,15 +1,18 @@
 -- The text of a plan as it is written: a header, a line for each message in the order of their
 -- numbers, and a summary (own).
 use Rattle.std.specs.Prelude.{ℕ, ◌-◌, List, [], ◌∷◌, ◌++◌, Option, Some, None, map, slice_index}
-use Rattle.std.specs.Prelude.{codes, decimal, if◌then◌else◌}
+use Rattle.std.specs.Prelude.{codes, decimal}
 use Rattle.std.specs.List.{join_by}
 use Rattle.waff_model.specs.declared.message.Version.{Version}
 use Rattle.waff_model.specs.Tree.{Node, name_of}
-use Rattle.waff_model.specs.Versions.{has_releases}
 use Rattle.waff_assign.specs.Order.{affinity_of}
 use Rattle.waff_plan.specs.Totals.{totals_of}
 use Rattle.waff_plan.specs.Work.{Work, finish_of, numbers}
 use Rattle.waff_plan.specs.declared.totals.Totals.{Totals}
+use Rattle.waff_plan_text.specs.Given.{SummaryLines}
+use Rattle.waff_plan_text.specs.Table.{Told, line_name, lines_of, told_of}
+use Rattle.waff_plan_text.specs.declared.table.Line.{Line}
+use Rattle.waff_plan_text.specs.declared.table.Line.TheVariants.{Bound, Chain, Workers}
 
 -- the header
 abbrev pub plan_header : List (List ℕ)
@@ -35,23 +38,22 @@ message_row tree assigned work start worker n =
 abbrev pub numbers_field : List ℕ → List ℕ
 numbers_field numbers = join_by decimal (32 ∷ []) numbers
 
--- the line of the release of the chain, where messages of the version have releases
-abbrev pub release_line : Version → List ℕ → List (List (List ℕ))
-release_line version release =
-    if has_releases version then (codes "release" ∷ release ∷ []) ∷ [] else []
+-- the fields behind the name of a line
+abbrev pub fields_behind : (line : Line) → Told line → List (List ℕ)
+fields_behind Workers workers = worker_field workers ∷ []
+fields_behind Chain chain = numbers_field chain ∷ []
+fields_behind Bound sides = decimal sides.0 ∷ decimal sides.1 ∷ []
+fields_behind _ n = decimal n ∷ []
 
--- the workers, the total cost, the length, the printed chain, its release and cost, and the two
--- sides of the bound
-abbrev pub summary_lines : Version → List ℕ → List ℕ → Totals → List (List (List ℕ))
+-- a line of a summary: its name, and what it tells
+abbrev pub summary_line : SummaryLines → Line → List (List ℕ)
+summary_line summary line = line_name line ∷ fields_behind line (told_of line summary)
+
+-- the lines of the summary of these workers, this chain and these totals
+unfoldable pub summary_lines : Version → Option ℕ → List ℕ → Totals → List (List (List ℕ))
 summary_lines version workers chain totals =
-    (codes "workers" ∷ workers ∷ [])
-    ∷ (codes "total" ∷ decimal totals.total ∷ [])
-    ∷ (codes "length" ∷ decimal totals.length ∷ [])
-    ∷ (codes "chain" ∷ numbers_field chain ∷ [])
-    ∷ release_line version (decimal totals.release)
-    ++ (codes "cost" ∷ decimal totals.cost ∷ [])
-    ∷ (codes "bound" ∷ decimal totals.left ∷ decimal totals.right ∷ [])
-    ∷ []
+    map (summary_line (record { workers = workers; chain = chain; totals = totals }))
+    (lines_of version)
 
 -- the lines of a plan for this number of workers, or without workers, and of a chain of its
 -- messages
@@ -59,7 +61,7 @@ abbrev pub plan_lines : Version → List Node
     → List ℕ → Work → Option ℕ → (ℕ → ℕ) → (ℕ → Option ℕ) → List ℕ → List (List (List ℕ))
 plan_lines version tree assigned work workers start worker chain =
     plan_header ∷ map (message_row tree assigned work start worker) (numbers work)
-    ++ summary_lines version (worker_field workers) chain (totals_of workers work start chain)
+    ++ summary_lines version workers chain (totals_of workers work start chain)
 
 -- no message has a worker
 abbrev pub no_worker : ℕ → Option ℕ

@@ -1,25 +1,27 @@
 -- The lines of a summary.
 use Rattle.std.specs.Prelude.{ℕ, ◌+◌, ◌==◌, Bool, false, ◌&&◌, nat_le, if◌then◌else◌, List, [], ◌∷◌}
-use Rattle.std.specs.Prelude.{drop, length, Option, Some, None, ok_or, option_map, is_some, Result}
+use Rattle.std.specs.Prelude.{length, Option, Some, None, ok_or, option_map, is_some, Result}
 use Rattle.std.specs.Prelude.{Ok, Err, codes}
 use Rattle.std.specs.Borrow.{Bor}
 use Rattle.std.specs.Str.{bytes_eq}
 use Rattle.waff_model.specs.declared.message.Version.{Version}
-use Rattle.waff_model.specs.Versions.{has_releases}
 use Rattle.waff_parse.specs.Fields.{Field, two_of, three_of}
 use Rattle.waff_parse.specs.Refusals.{◌>>=◌, told}
 use Rattle.waff_parse.specs.Rows.{Record, is_text}
 use Rattle.waff_parse.specs.Texts.{number_of, number_within, parts}
 use Rattle.waff_parse.specs.Walks.{walk}
+use Rattle.waff_plan.specs.declared.totals.Totals.{Totals}
 use Rattle.waff_plan_text.specs.Fields.{is_dash, number_within_limit}
 use Rattle.waff_plan_text.specs.Given.{SummaryLines}
 use Rattle.waff_plan_text.specs.Refusals.{at_record}
+use Rattle.waff_plan_text.specs.Table.{Told, lines_of, line_name, with_told}
 use Rattle.waff_model.specs.declared.limits.TheConstants.{MAX_WORKERS}
-use Rattle.waff_plan_text.specs.declared.closing.Closing.{Closing}
 use Rattle.waff_plan_text.specs.declared.refusal.PlanTextError.{PlanTextError}
 use Rattle.waff_plan_text.specs.declared.refusal.PlanTextError.TheVariants as error
 use Rattle.waff_plan_text.specs.declared.refusal.Refusal.{Refusal}
 use Rattle.waff_plan_text.specs.declared.refusal.Refusal.TheVariants as refusal
+use Rattle.waff_plan_text.specs.declared.table.Line.{Line}
+use Rattle.waff_plan_text.specs.declared.table.Line.TheVariants.{Bound, Chain, Cost, Length, Release, Total, Workers}
 
 -- the text that was borrowed of a record
 abbrev pub text_of : Result (Bor Field) Refusal → Result Field Refusal
@@ -93,53 +95,45 @@ bound_of (Some f) = if is_bound f.0 f.1 f.2 then sides_of f.1 f.2 else Err refus
 abbrev pub bound_line : Record → Result (ℕ × ℕ) Refusal
 bound_line row = bound_of (three_of row)
 
--- the next line, which is the first of the records: it is there, and is text
-abbrev pub next_line : {A : Type 0} → (Record → Result A Refusal)
-    → ℕ → List Record → Result A PlanTextError
-next_line read at [] = Err (error.Summary at)
-next_line read at (row ∷ more) =
-    told (at_record at) (if is_text row then read row else Err refusal.Csv)
+-- what a record tells as this line
+abbrev pub read_line : ℕ → (line : Line) → Record → Result (Told line) Refusal
+read_line messages Workers row = workers_line row
+read_line messages Total row = tick_line (line_name Total) row
+read_line messages Length row = tick_line (line_name Length) row
+read_line messages Chain row = chain_line messages row
+read_line messages Release row = tick_line (line_name Release) row
+read_line messages Cost row = tick_line (line_name Cost) row
+read_line messages Bound row = bound_line row
+
+-- a summary with what a record tells as this line
+abbrev pub with_line : ℕ → Line → Record → SummaryLines → Result SummaryLines Refusal
+with_line messages line row summary =
+    read_line messages line row >>= (λ value. Ok (with_told line value summary))
 
 -- no record follows the last line
 abbrev pub ends : ℕ → List Record → Result (Unit {0}) PlanTextError
 ends at [] = Ok tt
 ends at (row ∷ more) = Err (at_record at (if is_text row then refusal.Summary else refusal.Csv))
 
--- the cost, the bound and the end, after the release: the first of the records has this number
-unfoldable pub ending_of : ℕ → ℕ → List Record → Result Closing PlanTextError
-ending_of release at rows = do
-  cost ← next_line (tick_line (codes "cost")) at rows
-  bound ← next_line bound_line (at + 1) (drop 1 rows)
-  _ ← ends (at + 2) (drop 2 rows)
-  Ok (record { release = release; cost = cost; left = bound.0; right = bound.1 })
+-- a summary with what records tell as these lines: there is a record for each line, which is text,
+-- and no other; the first has this number
+unfoldable pub with_lines : ℕ → List Line → ℕ
+    → List Record → SummaryLines → Result SummaryLines PlanTextError
+with_lines messages [] at rows summary = ends at rows >>= (λ _. Ok summary)
+with_lines messages (line ∷ lines) at [] summary = Err (error.Summary at)
+with_lines messages (line ∷ lines) at (row ∷ more) summary =
+    told (at_record at)
+    (if is_text row then with_line messages line row summary else Err refusal.Csv)
+    >>= with_lines messages lines (at + 1) more
 
--- the lines behind the chain; a version without releases has none for the release
-unfoldable pub closing_of : Version → ℕ → List Record → Result Closing PlanTextError
-closing_of version at rows =
-    if has_releases version then (next_line (tick_line (codes "release")) at rows >>= (λ release.
-    ending_of release (at + 1) (drop 1 rows))) else ending_of 0 at rows
+-- before the first line
+abbrev pub no_totals : Totals
+no_totals = record { total = 0; length = 0; release = 0; cost = 0; left = 0; right = 0 }
 
--- the summary of these lines
-abbrev pub with_closing : Option ℕ → ℕ → ℕ → List ℕ → Closing → SummaryLines
-with_closing workers total length chain closing = record {
-  workers = workers;
-  chain = chain;
-  totals = record {
-    total = total;
-    length = length;
-    release = closing.release;
-    cost = closing.cost;
-    left = closing.left;
-    right = closing.right;
-  };
-}
+abbrev pub no_summary : SummaryLines
+no_summary = record { workers = None; chain = []; totals = no_totals }
 
--- the summary that records spell, the first of which has this number
-unfoldable pub summary_of : Version → ℕ → ℕ → List Record → Result SummaryLines PlanTextError
-summary_of version messages at rows = do
-  workers ← next_line workers_line at rows
-  total ← next_line (tick_line (codes "total")) (at + 1) (drop 1 rows)
-  length ← next_line (tick_line (codes "length")) (at + 2) (drop 2 rows)
-  chain ← next_line (chain_line messages) (at + 3) (drop 3 rows)
-  closing ← closing_of version (at + 4) (drop 4 rows)
-  Ok (with_closing workers total length chain closing)
+-- the summary that records spell, the first of which has this number; the release is 0 where the
+-- version has none
+abbrev pub summary_of : Version → ℕ → ℕ → List Record → Result SummaryLines PlanTextError
+summary_of version messages at rows = with_lines messages (lines_of version) at rows no_summary

@@ -14,6 +14,7 @@ ghost use Rattle.waff_plan_text.specs.Ratio.{HundredthsAreOne, RatioUpIsUpperBou
 ghost use Rattle.waff_plan_text.specs.Refused.{FirstFaultDecides};
 ghost use Rattle.waff_plan_text.specs.SpelledLines.{LinesAreExact};
 ghost use Rattle.waff_plan_text.specs.SpelledSummaries.{SummaryIsExact};
+ghost use Rattle.waff_plan_text.specs.declared.table.Line.{Line};
 
 /// A plan is read from the text that is written of it.
 pub fn written_is_read()
@@ -49,7 +50,8 @@ pub fn summary_is_exact()
 /// A record is accepted as a line of a summary where it is that line, is refused for a number where
 /// that is above the limit, and is refused as no line where it is none.
 pub fn lines_are_exact()
-    ensures exact { (messages : ℕ) (fields : Record) → LinesAreExact messages fields }
+    ensures exact { (messages : ℕ) (line : Line) (fields : Record)
+        → LinesAreExact messages line fields }
 {}
 
 /// The first record is accepted where it is the header, and is refused where it is no text, where

@@ -4,6 +4,8 @@
 //! spelling; what is read is any text of the format, its rows in any order, which need not be a
 //! plan of anything.
 //!
+//! - `table`: the lines of a summary, in their order.
+//!
 //! Writing:
 //! - `writing`: the text of a plan, with workers and without; `numbers`: numbers in it; `ratio`:
 //!   ratios as they are printed.
@@ -12,14 +14,13 @@
 //! - `refusal`: why a text is refused.
 //! - `records`: its records, one after the other; `field`, `row`, `lines`: by kind; `slots`: the
 //!   rows so far.
-//! - `summary`, `closing`: the lines of the summary.
+//! - `summary`: the lines of the summary.
 //! - `given`: the plan that a text gives.
 //! - `reading`: the reader, over all records.
 //!
 //! `laws`: which texts are read, what the others are refused for, and that what is written is read.
 #![tactic(auto)]
 
-mod closing;
 mod field;
 mod given;
 pub mod laws;
@@ -32,6 +33,7 @@ mod refusal;
 mod row;
 mod slots;
 mod summary;
+mod table;
 mod writing;
 
 pub use given::GivenPlan;

@@ -42,35 +42,38 @@ fn value<'a>(name: &str, row: &'a StringRecord) -> Result<&'a str, Refusal>
 }
 
 /// The number of workers, if the plan has workers.
-pub(crate) fn workers(row: &StringRecord) -> Result<Option<u32>, Refusal>
-    ensures value { result ≡ summaries.workers_line (fields_of row.now) }
+pub(crate) fn workers(row: &StringRecord) -> Result<Option<u32>, Stop<Refusal>>
+    ensures value { Gives (λ workers. workers) result
+        (summaries.workers_line (fields_of row.now)) }
     ensures within { IfOk result (λ workers. IfSome workers IsWorkers) }
 {
     let text = match value("workers", row) {
         Ok(text) => text,
-        Err(refusal) => return Err(refusal),
+        Err(refusal) => return Err(Stop::Fault(refusal)),
     };
     if text == "-" {
         return Ok(None);
     }
     match number_within(text, 1, u64::from(MAX_WORKERS)) {
         Some(workers) => Ok(Some(workers as u32)),
-        None => Err(Refusal::Summary),
+        None => Err(Stop::Fault(Refusal::Summary)),
     }
 }
 
 /// The number of the line with this name.
-pub(crate) fn tick(name: &str, row: &StringRecord) -> Result<u64, Refusal>
-    ensures { result ≡ summaries.tick_line name.now (fields_of row.now) }
+pub(crate) fn tick(name: &str, row: &StringRecord) -> Result<u64, Stop<Refusal>>
+    ensures { Gives (λ n. n) result (summaries.tick_line name.now (fields_of row.now)) }
 {
     let text = match value(name, row) {
         Ok(text) => text,
-        Err(refusal) => return Err(refusal),
+        Err(refusal) => return Err(Stop::Fault(refusal)),
     };
-    if is_number(text) {
-        read_number(text)
-    } else {
-        Err(Refusal::Summary)
+    if !is_number(text) {
+        return Err(Stop::Fault(Refusal::Summary));
+    }
+    match read_number(text) {
+        Ok(n) => Ok(n),
+        Err(refusal) => Err(Stop::Fault(refusal)),
     }
 }
 
@@ -113,22 +116,22 @@ pub(crate) fn chain(
 }
 
 /// The two sides of the bound.
-pub(crate) fn bound(row: &StringRecord) -> Result<(u64, u64), Refusal>
-    ensures { result ≡ summaries.bound_of (three_of (fields_of row.now)) }
+pub(crate) fn bound(row: &StringRecord) -> Result<(u64, u64), Stop<Refusal>>
+    ensures { Gives (λ sides. sides) result (summaries.bound_line (fields_of row.now)) }
 {
     let Some((name, left, right)) = three_fields(row) else {
-        return Err(Refusal::Summary);
+        return Err(Stop::Fault(Refusal::Summary));
     };
     if !is_bound(name, left, right) {
-        return Err(Refusal::Summary);
+        return Err(Stop::Fault(Refusal::Summary));
     }
     let left = match read_number(left) {
         Ok(left) => left,
-        Err(refusal) => return Err(refusal),
+        Err(refusal) => return Err(Stop::Fault(refusal)),
     };
     match read_number(right) {
         Ok(right) => Ok((left, right)),
-        Err(refusal) => Err(refusal),
+        Err(refusal) => Err(Stop::Fault(refusal)),
     }
 }
 

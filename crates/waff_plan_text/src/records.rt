@@ -3,7 +3,7 @@
 ghost use Rattle.std.specs.Prelude.{OnOk};
 ghost use Rattle.csv.specs.Records.{fields_of};
 ghost use Rattle.waff_parse.specs.Rows.{Reads, records_left};
-ghost use Rattle.waff_plan_text.specs.Records.{GivesLine, GivesRecord};
+ghost use Rattle.waff_plan_text.specs.Records.{GivesRecord};
 
 use crate::refusal::PlanTextError;
 use csv::{Reader, StringRecord};
@@ -24,23 +24,5 @@ pub(crate) fn next_record(
         Ok(found) => Ok(found),
         Err(Stop::Memory) => Err(Stop::Memory),
         Err(Stop::Fault(_)) => Err(Stop::Fault(PlanTextError::Csv { at })),
-    }
-}
-
-/// Reads the next line of a summary, which has to be there.
-pub(crate) fn next_line(
-    at: u64,
-    rdr: &mut Reader<&[u8]>,
-    row: &mut StringRecord,
-) -> Result<(), Stop<PlanTextError>>
-    requires { Reads rdr.old }
-    ensures next { GivesLine at result (records_left rdr.old)
-        (fields_of row.new) (records_left rdr.new) }
-    ensures reads { OnOk result (Reads rdr.new) }
-{
-    match next_record(at, rdr, row) {
-        Ok(true) => Ok(()),
-        Ok(false) => Err(Stop::Fault(PlanTextError::Summary { at })),
-        Err(stop) => Err(stop),
     }
 }

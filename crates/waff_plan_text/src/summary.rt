@@ -1,7 +1,6 @@
 //! The summary of a plan text.
 
-ghost use Rattle.std.specs.Prelude.{◌≡◌, true, ◌+◌, ◌∷◌, ◌^◌, ◌<◌, drop, length, IfOk, IfSome};
-ghost use Rattle.std.specs.Prelude.{OnOk};
+ghost use Rattle.std.specs.Prelude.{◌≡◌, true, ◌+◌, ◌∷◌, ◌^◌, ◌<◌, IfOk, IfSome};
 ghost use Rattle.csv.specs.Records.{fields_of};
 ghost use Rattle.waff_parse.specs.Rows.{Reads, records_left, is_text};
 ghost use Rattle.waff_parse.specs.Stopping.{Gives};
@@ -9,10 +8,10 @@ ghost use Rattle.waff_plan.specs.Bound.{IsWorkers};
 ghost use Rattle.waff_plan.specs.Chain.{IsListed};
 ghost use Rattle.waff_plan_text.specs.Summaries as summaries;
 
-use crate::closing::Closing;
 use crate::lines;
-use crate::records::{next_line, next_record};
-use crate::refusal::PlanTextError;
+use crate::records::next_record;
+use crate::refusal::{PlanTextError, Refusal};
+use crate::table::{Line, all_lines};
 use csv::{Reader, StringRecord};
 use std::alloc::Global;
 use std::marker::Model;
@@ -38,157 +37,97 @@ impl Model for Summary {
     ghost view = { λ s. record { workers = s.workers; chain = s.chain.items; totals = s.totals } };
 }
 
-// The number of the next line, which has this name.
-fn read_tick(
-    name: &str,
-    at: u64,
-    rdr: &mut Reader<&[u8]>,
-    row: &mut StringRecord,
-) -> Result<u64, Stop<PlanTextError>>
-    requires { Reads rdr.old }
-    ensures value { Gives (λ n. n) result
-        (summaries.next_line (summaries.tick_line name.now) at (records_left rdr.old)) }
-    ensures left { OnOk result (records_left rdr.new ≡ drop 1 (records_left rdr.old)) }
-    ensures reads { OnOk result (Reads rdr.new) }
-{
-    next_line(at, rdr, row)?;
-    match lines::tick(name, row) {
-        Ok(n) => Ok(n),
-        Err(refusal) => Err(Stop::Fault(refusal.at_record(at))),
+impl Summary {
+    ghost use Rattle.std.specs.Prelude.{OnOk};
+
+    /// The summary before its first line is read.
+    fn new(alloc: Global) -> Summary
+        ensures { result ≡ summaries.no_summary }
+    {
+        Summary {
+            workers: None,
+            chain: Vec::new(alloc),
+            totals: Totals {
+                total: 0,
+                length: 0,
+                release: 0,
+                cost: 0,
+                left: 0,
+                right: 0,
+            },
+        }
     }
-}
 
-// The chain of the next line, of as many messages.
-fn read_chain(
-    alloc: Global,
-    messages: u32,
-    at: u64,
-    rdr: &mut Reader<&[u8]>,
-    row: &mut StringRecord,
-) -> Result<Vec<u32>, Stop<PlanTextError>>
-    requires { Reads rdr.old }
-    ensures value { Gives (λ chain. chain.items) result
-        (summaries.next_line (summaries.chain_line messages) at (records_left rdr.old)) }
-    ensures within { IfOk result (λ chain. IsListed messages chain.items) }
-    ensures left { OnOk result (records_left rdr.new ≡ drop 1 (records_left rdr.old)) }
-    ensures reads { OnOk result (Reads rdr.new) }
-{
-    next_line(at, rdr, row)?;
-    match lines::chain(alloc, messages, row) {
-        Ok(chain) => Ok(chain),
-        Err(Stop::Memory) => Err(Stop::Memory),
-        Err(Stop::Fault(refusal)) => Err(Stop::Fault(refusal.at_record(at))),
-    }
-}
-
-// The sides of the bound of the next line.
-fn read_bound(
-    at: u64,
-    rdr: &mut Reader<&[u8]>,
-    row: &mut StringRecord,
-) -> Result<(u64, u64), Stop<PlanTextError>>
-    requires { Reads rdr.old }
-    ensures value { Gives (λ n. n) result
-        (summaries.next_line summaries.bound_line at (records_left rdr.old)) }
-    ensures left { OnOk result (records_left rdr.new ≡ drop 1 (records_left rdr.old)) }
-    ensures reads { OnOk result (Reads rdr.new) }
-{
-    next_line(at, rdr, row)?;
-    match lines::bound(row) {
-        Ok(n) => Ok(n),
-        Err(refusal) => Err(Stop::Fault(refusal.at_record(at))),
-    }
-}
-
-// Reads that no record is left.
-fn read_end(
-    at: u64,
-    rdr: &mut Reader<&[u8]>,
-    row: &mut StringRecord,
-) -> Result<(), Stop<PlanTextError>>
-    requires { Reads rdr.old }
-    ensures value { Gives (λ n. n) result (summaries.ends at (records_left rdr.old)) }
-{
-    match next_record(at, rdr, row) {
-        Ok(true) => Err(Stop::Fault(PlanTextError::Summary { at })),
-        Ok(false) => Ok(()),
-        Err(stop) => Err(stop),
-    }
-}
-
-// The cost, the bound and the end, after this release, from the record of this number on.
-#[tactic(auto, unfolding(crate::specs::Summaries::ending_of))]
-fn read_ending(
-    release: u64,
-    at: u64,
-    rdr: &mut Reader<&[u8]>,
-    row: &mut StringRecord,
-) -> Result<Closing, Stop<PlanTextError>>
-    requires reads { Reads rdr.old }
-    requires room { at + 2 < 2 ^ 64 }
-    ensures { Gives (λ n. n) result (summaries.ending_of release at (records_left rdr.old)) }
-{
-    let cost = read_tick("cost", at, rdr, row)?;
-    let (left, right) = read_bound(at + 1, rdr, row)?;
-    read_end(at + 2, rdr, row)?;
-    Ok(Closing {
-        release,
-        cost,
-        left,
-        right,
-    })
-}
-
-// The lines behind the chain, from the record of this number on.
-#[tactic(auto, unfolding(crate::specs::Summaries::closing_of))]
-fn read_closing(
-    version: Version,
-    at: u64,
-    rdr: &mut Reader<&[u8]>,
-    row: &mut StringRecord,
-) -> Result<Closing, Stop<PlanTextError>>
-    requires reads { Reads rdr.old }
-    requires room { at + 3 < 2 ^ 64 }
-    ensures { Gives (λ n. n) result (summaries.closing_of version at (records_left rdr.old)) }
-{
-    if version.has_releases() {
-        let release = read_tick("release", at, rdr, row)?;
-        read_ending(release, at + 1, rdr, row)
-    } else {
-        read_ending(0, at, rdr, row)
+    /// Takes what this row tells as this line, of a plan of as many messages.
+    fn read_line(
+        &mut self,
+        alloc: Global,
+        messages: u32,
+        line: Line,
+        row: &StringRecord,
+    ) -> Result<(), Stop<Refusal>>
+        requires workers { IfSome self.old.workers IsWorkers }
+        requires chain { IsListed messages self.old.chain }
+        ensures value { Gives (λ _. self.new) result
+            (summaries.with_line messages line (fields_of row.now) self.old) }
+        ensures workers { OnOk result (IfSome self.new.workers IsWorkers) }
+        ensures chain { OnOk result (IsListed messages self.new.chain) }
+    {
+        match line {
+            Line::Workers => self.workers = lines::workers(row)?,
+            Line::Total => self.totals.total = lines::tick(line.name(), row)?,
+            Line::Length => self.totals.length = lines::tick(line.name(), row)?,
+            Line::Chain => self.chain = lines::chain(alloc, messages, row)?,
+            Line::Release => self.totals.release = lines::tick(line.name(), row)?,
+            Line::Cost => self.totals.cost = lines::tick(line.name(), row)?,
+            Line::Bound => {
+                let (left, right) = lines::bound(row)?;
+                self.totals.left = left;
+                self.totals.right = right;
+            }
+        }
+        Ok(())
     }
 }
 
 /// The summary of which the first line is this row, the record of this number.
-#[tactic(auto, unfolding(crate::specs::Summaries::summary_of))]
 pub(crate) fn read_summary(
     alloc: Global,
     version: Version,
     messages: u32,
-    at: u64,
+    first: u64,
     rdr: &mut Reader<&[u8]>,
     row: &mut StringRecord,
 ) -> Result<Summary, Stop<PlanTextError>>
     requires reads { Reads rdr.old }
     requires text { is_text (fields_of row.old) ≡ true }
-    requires room { at + 8 < 2 ^ 64 }
+    requires room { first + 8 < 2 ^ 64 }
     ensures value { Gives (λ s. s) result
-        (summaries.summary_of version messages at (fields_of row.old ∷ records_left rdr.old)) }
+        (summaries.summary_of version messages first (fields_of row.old ∷ records_left rdr.old)) }
     ensures workers { IfOk result (λ s. IfSome s.workers IsWorkers) }
     ensures chain { IfOk result (λ s. IsListed messages s.chain) }
 {
-    let workers = match lines::workers(row) {
-        Ok(workers) => workers,
-        Err(refusal) => return Err(Stop::Fault(refusal.at_record(at))),
-    };
-    let total = read_tick("total", at + 1, rdr, row)?;
-    let length = read_tick("length", at + 2, rdr, row)?;
-    let chain = read_chain(alloc, messages, at + 3, rdr, row)?;
-    let closing = read_closing(version, at + 4, rdr, row)?;
-    let totals = closing.totals(total, length);
-    Ok(Summary {
-        workers,
-        chain,
-        totals,
-    })
+    let mut summary = Summary::new(alloc);
+    let mut at = first;
+    let mut found = true;
+    let lines = all_lines();
+    for line in lines {
+        if !line.is_in(version) {
+            continue;
+        }
+        if !found {
+            return Err(Stop::Fault(PlanTextError::Summary { at }));
+        }
+        match summary.read_line(alloc, messages, *line, row) {
+            Ok(()) => {}
+            Err(Stop::Memory) => return Err(Stop::Memory),
+            Err(Stop::Fault(refusal)) => return Err(Stop::Fault(refusal.at_record(at))),
+        }
+        at += 1;
+        found = next_record(at, rdr, row)?;
+    }
+    if found {
+        return Err(Stop::Fault(PlanTextError::Summary { at }));
+    }
+    Ok(summary)
 }

@@ -1,19 +1,22 @@
 //! The writer of plan texts.
 
-ghost use Rattle.std.specs.Prelude.{◌≡◌, [], ◌∷◌, IfOk, IfSome, OnOk, codes, decimal, length};
+ghost use Rattle.std.specs.Prelude.{◌≡◌, [], ◌∷◌, IfOk, IfSome, OnOk, decimal, length};
 ghost use Rattle.std.specs.Prelude.{map, option_copied, string_bytes};
 ghost use Rattle.waff_plan.specs.Planned.{planned_starts, planned_work};
 ghost use Rattle.waff_plan.specs.Bound.{IsWorkers};
 ghost use Rattle.waff_plan.specs.Chain.{IsListed};
 ghost use Rattle.waff_plan.specs.Work.{IsAmongFirst, numbers};
 ghost use Rattle.waff_plan_text.specs.Lines.{Adds, line_text, text_of};
-ghost use Rattle.waff_plan_text.specs.Spelling.{message_row, numbers_field, plan_header, plan_lines};
-ghost use Rattle.waff_plan_text.specs.Spelling.{plan_row, release_line, summary_lines};
+ghost use Rattle.waff_plan_text.specs.Spelling.{fields_behind, message_row, numbers_field};
+ghost use Rattle.waff_plan_text.specs.Spelling.{plan_header, plan_lines, plan_row};
+ghost use Rattle.waff_plan_text.specs.Spelling.{summary_line, summary_lines};
 ghost use Rattle.waff_plan_text.specs.Spelling.{unlimited_lines, worker_field, worker_lines};
 ghost use Rattle.waff_plan_text.specs.Spelling.{workers_of};
+ghost use Rattle.waff_plan_text.specs.Table.{told_of};
 
 use crate::numbers::{WorkerField, push_field, push_numbers};
 use crate::row::COLUMNS;
+use crate::table::{Line, all_lines};
 use std::alloc::{AllocError, Global};
 use waff_model::Version;
 use waff_plan::{Planned, Totals};
@@ -162,40 +165,69 @@ fn push_summary(
     totals: &Totals,
 ) -> Result<(), AllocError>
     ensures { OnOk result (Adds text.old text.new
-        (text_of (summary_lines version (worker_field workers) chain.now totals.now))) }
+        (text_of (summary_lines version workers chain.now totals.now))) }
 {
-    let workers_field = WorkerField(workers);
-    let total = totals.total;
-    let length = totals.length;
-    writeln!(
-        text,
-        "workers,{workers_field}\ntotal,{total}\nlength,{length}"
-    )?;
-    push_chain(text, chain)?;
-    push_release(text, version, totals.release)?;
-    let cost = totals.cost;
-    let left = totals.left;
-    let right = totals.right;
-    writeln!(text, "cost,{cost}\nbound,{left},{right}")
+    let lines = all_lines();
+    for line in lines {
+        if !line.is_in(version) {
+            continue;
+        }
+        push_line(text, *line, workers, chain, totals)?;
+    }
+    Ok(())
 }
 
-/// Appends the line of the printed chain.
-fn push_chain(text: &mut String, chain: &[u32]) -> Result<(), AllocError>
-    ensures { OnOk result (Adds text.old text.new
-        (line_text (codes "chain" ∷ numbers_field chain.now ∷ []))) }
+/// Appends one line of the summary.
+fn push_line(
+    text: &mut String,
+    line: Line,
+    workers: Option<u32>,
+    chain: &[u32],
+    totals: &Totals,
+) -> Result<(), AllocError>
+    ensures { OnOk result (Adds text.old text.new (line_text (summary_line
+        (record { workers = workers; chain = chain.now; totals = totals.now }) line))) }
 {
-    text.push_str("chain,")?;
+    text.push_str(line.name())?;
+    text.push(',')?;
+    push_told(text, line, workers, chain, totals)
+}
+
+/// Appends what a line of the summary tells, to its end.
+fn push_told(
+    text: &mut String,
+    line: Line,
+    workers: Option<u32>,
+    chain: &[u32],
+    totals: &Totals,
+) -> Result<(), AllocError>
+    ensures { OnOk result (Adds text.old text.new (line_text (fields_behind line (told_of line
+        (record { workers = workers; chain = chain.now; totals = totals.now }))))) }
+{
+    match line {
+        Line::Workers => writeln!(text, "{}", WorkerField(workers)),
+        Line::Total => writeln!(text, "{}", totals.total),
+        Line::Length => writeln!(text, "{}", totals.length),
+        Line::Chain => push_chain(text, chain),
+        Line::Release => writeln!(text, "{}", totals.release),
+        Line::Cost => writeln!(text, "{}", totals.cost),
+        Line::Bound => push_bound(text, totals.left, totals.right),
+    }
+}
+
+/// Appends the messages of the chain, to the end of their line.
+fn push_chain(text: &mut String, chain: &[u32]) -> Result<(), AllocError>
+    ensures { OnOk result (Adds text.old text.new (line_text (numbers_field chain.now ∷ []))) }
+{
     push_numbers(text, chain)?;
     text.push('\n')
 }
 
-/// Appends the line of the release, where the version has one.
-fn push_release(text: &mut String, version: Version, release: u64) -> Result<(), AllocError>
+/// Appends the two sides of the bound, to the end of their line.
+fn push_bound(text: &mut String, left: u64, right: u64) -> Result<(), AllocError>
     ensures { OnOk result (Adds text.old text.new
-        (text_of (release_line version (decimal release)))) }
+        (line_text (decimal left ∷ decimal right ∷ []))) }
 {
-    if version.has_releases() {
-        writeln!(text, "release,{release}")?;
-    }
-    Ok(())
+    push_field(text, left)?;
+    writeln!(text, "{right}")
 }

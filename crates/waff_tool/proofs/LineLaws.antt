@@ -9,7 +9,7 @@ use Rattle.waff_plan.specs.Totals.{totals_of}
 use Rattle.waff_plan.specs.Unique.{AreSame}
 use Rattle.waff_plan.specs.Work.{Work, IsNumber, numbers}
 use Rattle.waff_plan.proofs.Uniqueness.{totals_same}
-use Rattle.waff_plan_text.specs.Spelling.{message_row, plan_header, plan_lines, plan_row, summary_lines, worker_field}
+use Rattle.waff_plan_text.specs.Spelling.{message_row, plan_header, plan_lines, plan_row, summary_lines}
 
 -- lists by message that are the same at each message are equal
 map_same : {X : Type 0} (work : Work) (f g : ℕ → X) → ((m : ℕ) → IsNumber work m → f m ≡ g m) → map f (numbers work) ≡ map g (numbers work)
@@ -32,5 +32,5 @@ lines_same version tree assigned work workers start other worker other_worker ch
     let rows = map_same work (message_row tree assigned work start worker) (message_row tree assigned work other other_worker)
     (λ m number. ap (λ s. row m s (worker m)) (same m number) ∙ ap (λ w. row m (other m) w) (same_worker m number)) in
     let totals = totals_same workers work start other chain same in
-    ap (λ lines. plan_header ∷ lines ++ summary_lines version (worker_field workers) chain (totals_of workers work start chain)) rows
-    ∙ ap (λ t. plan_header ∷ map (message_row tree assigned work other other_worker) (numbers work) ++ summary_lines version (worker_field workers) chain t) totals
+    ap (λ lines. plan_header ∷ lines ++ summary_lines version workers chain (totals_of workers work start chain)) rows
+    ∙ ap (λ t. plan_header ∷ map (message_row tree assigned work other other_worker) (numbers work) ++ summary_lines version workers chain t) totals
