@@ -1,16 +1,15 @@
 //! A hierarchy that is refused.
 
 ghost use Rattle.std.specs.Prelude.{IfOk, string_bytes};
-ghost use Rattle.waff_explain.specs.Lines.{AreHeadedLines};
+ghost use Rattle.waff_say.specs.Lines.{AreHeadedLines};
 
 use crate::affinities::{push_no_tree, push_third_level};
 use crate::document::{push_no_key, push_no_model};
 use crate::layouts::push_no_layout;
-use crate::walk::feeds;
-use crate::words::{Words, say};
 use std::alloc::{AllocError, Global};
 use toml::Value;
 use waff_read::HierError;
+use waff_say::{Words, feeds, say};
 
 /// Where the fault is for which the hierarchy is refused, what was found and what is wanted.
 pub fn hierarchy_words(alloc: Global, bytes: &[u8], fault: HierError) -> Result<String, AllocError>
@@ -48,6 +47,16 @@ fn push_no_document(words: &mut Words, bytes: &[u8], e: &toml::de::Error) {
     push_line(words, bytes, start);
     say!(words; Found: "no TOML: {}", e.message());
     say!(words; Wanted: "a document in TOML");
+    push_no_hierarchy(words, bytes);
+}
+
+/// Appends the guess that another file stands in the place of the hierarchy, where the bytes begin
+/// as the headers of traces and plans do.
+fn push_no_hierarchy(words: &mut Words, bytes: &[u8]) {
+    if bytes.starts_with(b"message,") {
+        say!(words; Found:
+            "perhaps a trace or a plan: all commands but rank take the hierarchy first");
+    }
 }
 
 /// Appends the line in which a byte stands.

@@ -1,13 +1,12 @@
 //! Spaces and maps that are refused.
 
 use crate::document::{push_row, rows, text_at, text_of};
-use crate::fields::push_no_name;
 use crate::named::Named;
-use crate::words::{Words, say};
 use toml::Value;
 use waff_model::limits::{MAX_CELLS, MAX_OWNERS, MAX_SPACES};
-use waff_model::{LayoutError, is_name};
+use waff_model::{Format, LayoutError, is_name};
 use waff_read::read_format;
+use waff_say::{Words, push_no_name, say};
 
 /// Appends which space or map is refused, what was found and what is wanted.
 pub(crate) fn push_no_layout(words: &mut Words, document: &Value, error: LayoutError) {
@@ -86,9 +85,23 @@ fn push_no_integer(words: &mut Words, tables: &[Value], kind: &str, key: &str, m
         if found < 1 || found > i64::from(most) {
             push_row(words, kind, tables, number);
             say!(words; Found: "the {} {}", key, found);
-            return say!(words; Wanted: "a {} from 1 to {}", key, most);
+            say!(words; Wanted: "a {} from 1 to {}", key, most);
+            return push_large(words, found, most);
         }
     }
+}
+
+/// Appends the guess that spaces are to be large, where a number is above the most of its format and
+/// not above that of format 2.
+fn push_large(words: &mut Words, found: i64, most: u32) {
+    if i64::from(most) < found && found <= i64::from(Format::F2.max_size()) {
+        push_no_format(words);
+    }
+}
+
+/// Appends the guess that spaces are to be large.
+fn push_no_format(words: &mut Words) {
+    say!(words; Found: "perhaps large spaces, which need `format = 2` at the top");
 }
 
 fn integer_at(row: &Value, key: &str) -> i64 {
@@ -138,4 +151,5 @@ fn push_cells(words: &mut Words, spaces: &[Value]) {
     say!(words; Where: "hierarchy, space");
     say!(words; Found: "{} cells over all spaces", cells);
     say!(words; Wanted: "{} cells or fewer", MAX_CELLS);
+    push_no_format(words);
 }

@@ -1,9 +1,9 @@
 //! What is wrong with an operation of a message.
 
-use crate::words::{Words, say};
 use waff_model::{Layout, Version, is_name};
 use waff_parse::{are_rising, cut, number, two_parts};
 use waff_read::TraceError;
+use waff_say::{Words, say};
 
 /// What is wrong with a piece, in the order in which faults are told.
 #[derive(Clone, Copy)]
@@ -50,9 +50,10 @@ impl<'a> Flaw<'a> {
                 say!(words; Wanted: "`set C N`, `add C N`, `copy C D`, `swap C D` or `read C`");
             }
             Flaw::Cell(word) => {
-                let word = word.as_bytes();
-                say!(words; Found: "operation {}, `{}`: `{}` is no cell", piece, op, word);
+                let shown = word.as_bytes();
+                say!(words; Found: "operation {}, `{}`: `{}` is no cell", piece, op, shown);
                 say!(words; Wanted: "a cell: a name, `:` and a number without a leading zero");
+                push_early_range(words, op, word);
             }
             Flaw::Range(word) => {
                 let word = word.as_bytes();
@@ -75,6 +76,23 @@ impl<'a> Flaw<'a> {
                 say!(words; Wanted: "a number below the size of the space, which is {}", size);
             }
         }
+    }
+}
+
+/// Appends the guess that a range was meant, where the word of an operation is no cell but would be
+/// a range in a trace of version 3.
+fn push_early_range(words: &mut Words, op: &[u8], word: &str) {
+    if is_range(word) && !op.starts_with(b"copy ") && !op.starts_with(b"swap ") {
+        say!(words; Found:
+            "perhaps a range, which needs the header message,cost,release,client,think,ops");
+    }
+}
+
+/// Whether a word is a range of cells.
+fn is_range(word: &str) -> bool {
+    match range_of(Version::V3, word) {
+        Some((name, first, last)) => is_name(name) && are_rising(first, last),
+        None => false,
     }
 }
 

@@ -1,16 +1,19 @@
 //! A trace that is refused.
 
 ghost use Rattle.std.specs.Prelude.{IfOk, string_bytes};
-ghost use Rattle.waff_explain.specs.Lines.{AreHeadedLines};
+ghost use Rattle.waff_say.specs.Lines.{AreHeadedLines};
 
-use crate::fields::{push_no_name, push_no_number, push_no_text, push_too_many};
 use crate::operations::{count_ops, flaw_of};
-use crate::walk::Walk;
-use crate::words::{Words, say};
 use std::alloc::{AllocError, Global};
 use waff_model::limits::{MAX_ALL_OPS, MAX_COST, MAX_RELEASE, MAX_THINK};
 use waff_model::{Layout, Version};
 use waff_read::TraceError;
+use waff_say::{
+    Walk, Words, push_no_commas, push_no_name, push_no_number, push_no_text, push_too_many, say,
+};
+
+/// The line that begins a table of an affinity.
+const AFFINITY: &str = "[[affinity]]";
 
 /// Where the fault is for which the trace is refused under the layout, what was found and what is
 /// wanted, of the versions of traces up to the newest.
@@ -41,7 +44,10 @@ fn push_refusal(
     let version = version_of(walk.len());
     walk.push_record(words, "trace", record_of(fault));
     match fault {
-        TraceError::Header { .. } => push_no_header(words, newest),
+        TraceError::Header { .. } => {
+            push_no_header(words, newest);
+            push_no_trace(words, &mut walk);
+        }
         _ => push_fault(words, layout, version, &walk, fault),
     }
     walk.end(words);
@@ -73,6 +79,15 @@ fn push_no_header(words: &mut Words, newest: Version) {
             say!(words; Wanted: "the header message,cost,ops or message,cost,release,ops"),
         Version::V3 =>
             say!(words; Wanted: "the header message,cost,ops, message,cost,release,ops or message,cost,release,client,think,ops"),
+    }
+}
+
+/// Appends a guess at why the record is no header: other bytes in place of commas, or a hierarchy
+/// in the place of the trace, where this record or one behind it begins a table of an affinity.
+fn push_no_trace(words: &mut Words, walk: &mut Walk<'_>) {
+    push_no_commas(words, walk);
+    if walk.field(0) == AFFINITY || walk.find(AFFINITY) {
+        say!(words; Found: "perhaps a hierarchy: the trace comes behind it");
     }
 }
 

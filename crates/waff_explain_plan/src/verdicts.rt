@@ -1,18 +1,16 @@
 //! A verdict, with the messages that it names.
 
 ghost use Rattle.std.specs.Prelude.{◌≡◌, IfOk, length, string_bytes};
-ghost use Rattle.waff_explain.specs.Lines.{AreHeadedLines};
+ghost use Rattle.waff_say.specs.Lines.{AreHeadedLines};
 
 use crate::hearing::Hearing;
-use crate::sizes::push_sizes;
-use crate::walk::push_line;
-use crate::words::{Words, say};
 use std::alloc::{AllocError, Global};
 use waff_assign::Case;
 use waff_check::Verdict;
 use waff_model::{Layout, Version};
 use waff_plan::Totals;
 use waff_plan_text::GivenPlan;
+use waff_say::{Words, push_line, push_sizes, say};
 
 /// What the verdict tells of the plan that was given for the case, whose text these bytes are: where
 /// a fault is, the messages that it names, what was found and what is wanted, or else how good the

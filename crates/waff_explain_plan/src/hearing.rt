@@ -2,13 +2,12 @@
 
 ghost use Rattle.std.specs.Prelude.{◌≡◌, ◌↔◌, ◌<◌, ◌≤◌, IsTrue, length};
 
-use crate::walk::push_line;
-use crate::words::{Words, say};
 use std::alloc::{AllocError, Global};
 use waff_assign::Case;
 use waff_model::{AffinityId, Message, Tree, Version};
 use waff_plan::{Plan, Totals};
 use waff_plan_text::{GivenPlan, Row};
+use waff_say::{Words, push_line, say};
 
 /// A case, the plan that was given for it, the plan of its starts, and the bytes that give the plan.
 /// What is asked of a message that there is not is 0, or empty.

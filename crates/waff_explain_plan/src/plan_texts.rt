@@ -1,16 +1,17 @@
 //! The text of a plan that is refused.
 
 ghost use Rattle.std.specs.Prelude.{IfOk, string_bytes};
-ghost use Rattle.waff_explain.specs.Lines.{AreHeadedLines};
+ghost use Rattle.waff_say.specs.Lines.{AreHeadedLines};
 
-use crate::fields::{push_no_name, push_no_number, push_no_text};
-use crate::walk::{Walk, find_behind_header};
-use crate::words::{Words, say};
 use std::alloc::{AllocError, Global};
 use waff_model::limits::{MAX_TICK, MAX_WORKERS};
 use waff_model::{Trace, Version, is_name};
 use waff_parse::{number, number_within};
 use waff_plan_text::{COLUMNS, PlanTextError};
+use waff_say::{
+    Walk, Words, find_behind_header, push_no_commas, push_no_name, push_no_number, push_no_text,
+    say,
+};
 
 /// Where the fault is for which the text of a plan of the trace is refused, what was found and what
 /// is wanted.
@@ -46,7 +47,35 @@ fn push_refusal(
         }
         _ => push_fault(words, messages, &walk, fault),
     }
+    push_guess(words, messages, summary.saturating_sub(2), &walk, fault);
     walk.end(words);
+}
+
+/// Appends a guess at why a text is refused that has so many rows: other bytes in place of commas, or
+/// the plan of another trace.
+fn push_guess(words: &mut Words, messages: u32, rows: u64, walk: &Walk<'_>, fault: PlanTextError) {
+    match fault {
+        PlanTextError::Header { .. } => push_no_commas(words, walk),
+        PlanTextError::Row { .. } if is_longer(messages, rows, walk.field(0)) => push_other_trace(
+            words, messages, rows,
+        ),
+        PlanTextError::Missing { message } if u64::from(message) == rows.saturating_add(1) =>
+            push_other_trace(words, messages, rows),
+        _ => {}
+    }
+}
+
+/// Whether there are more rows than messages, and the number of a row is that of no message.
+fn is_longer(messages: u32, rows: u64, field: &str) -> bool {
+    u64::from(messages) < rows
+        && number(field).is_some()
+        && number_within(field, 0, u64::from(messages)).is_none()
+}
+
+/// Appends the guess that the plan is one of another trace.
+fn push_other_trace(words: &mut Words, messages: u32, rows: u64) {
+    say!(words; Found: "perhaps the plan of another trace: it has {} rows, and the trace {} messages",
+        rows, messages);
 }
 
 /// Appends what was found and what is wanted of the record at which the walk stands.

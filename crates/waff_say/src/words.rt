@@ -1,8 +1,8 @@
 //! The lines of an explanation, which grow in number.
 
 ghost use Rattle.std.specs.Prelude.{◌≡◌, Some, IfOk, List, ℕ, length, string_bytes};
-ghost use Rattle.waff_explain.specs.Lines.{IsHeadedLine, AreHeadedLines, LinesAreOne, head_text};
-ghost use Rattle.waff_explain.specs.Lines.{places};
+ghost use Rattle.waff_say.specs.Lines.{IsHeadedLine, AreHeadedLines, LinesAreOne, head_text};
+ghost use Rattle.waff_say.specs.Lines.{places};
 
 use crate::said::Said;
 use std::alloc::{AllocError, Global};
@@ -43,17 +43,16 @@ impl fmt::Display for Head {
 }
 
 /// Appends to words a line with a head: a sentence, with the values that stand in it at each `{}`.
+#[macro_export]
 macro_rules! say {
     ($words:expr; $head:ident $(($number:expr))?: $format:literal) => {
-        $words.say($crate::words::Head::$head $(($number))?, $format, &[])
+        $words.say($crate::Head::$head $(($number))?, $format, &[])
     };
     ($words:expr; $head:ident $(($number:expr))?: $format:literal, $($value:expr),+) => {{
-        let values = [$($crate::said::Said::from($value)),+];
-        $words.say($crate::words::Head::$head $(($number))?, $format, &values);
+        let values = [$($crate::Said::from($value)),+];
+        $words.say($crate::Head::$head $(($number))?, $format, &values);
     }};
 }
-
-pub(crate) use say;
 
 /// What a line says behind its head.
 #[derive(Clone, Copy)]
@@ -78,7 +77,7 @@ impl<'a> fmt::Display for Sentence<'a> {
 /// Lines of an explanation. Where memory is refused they keep that, and what comes then is left
 /// out, so that only their end has to be asked.
 #[derive(Drop)]
-pub(crate) struct Words {
+pub struct Words {
     text: String,
     is_refused: bool,
 }
@@ -93,7 +92,7 @@ impl Model for Words {
 
 impl Words {
     /// No lines.
-    pub(crate) fn new(alloc: Global) -> Self {
+    pub fn new(alloc: Global) -> Self {
         Words {
             text: String::new(alloc),
             is_refused: false,
@@ -101,12 +100,12 @@ impl Words {
     }
 
     /// The allocator of the text.
-    pub(crate) fn alloc(&self) -> Global {
+    pub fn alloc(&self) -> Global {
         *self.text.allocator()
     }
 
     /// The text of the lines, unless memory was refused.
-    pub(crate) fn finish(self) -> Result<String, AllocError>
+    pub fn finish(self) -> Result<String, AllocError>
         ensures { IfOk result (λ text. AreHeadedLines (string_bytes text)) }
     {
         if self.is_refused {
@@ -116,12 +115,12 @@ impl Words {
     }
 
     /// Keeps that memory was refused for what the lines tell of.
-    pub(crate) fn refuse(&mut self) {
+    pub fn refuse(&mut self) {
         self.is_refused = true;
     }
 
     /// Appends a line with this head: the sentence of a format, with a value for each `{}`.
-    pub(crate) fn say(&mut self, head: Head, format: &str, values: &[Said<'_>])
+    pub fn say(&mut self, head: Head, format: &str, values: &[Said<'_>])
         requires filled { places format.now ≡ length values.now }
     {
         match line_of(self.alloc(), head, Sentence { format, values }) {
