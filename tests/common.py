@@ -1,5 +1,6 @@
 """What the tests that are written in Python share: the program, its commands, and a count of checks."""
 
+import os
 import pathlib
 import re
 import subprocess
@@ -23,9 +24,9 @@ def program() -> str:
 
 
 def commands(program: str) -> list[str]:
-    """The names of the commands that a program knows, from its help."""
+    """The names of the commands that a program knows, from its help, in which each has a line."""
     text = subprocess.run([program, "--help"], stdout=subprocess.PIPE, text=True, check=True).stdout
-    names = re.findall(r"^  ([a-z]+)  ", text.partition("Commands:")[2].partition("\n\n")[0], re.M)
+    names = re.findall(r"^  ([a-z]+) +[A-Z]", text, re.M)
     if len(names) < 2:
         sys.exit("the help of the program lists no commands")
     return [name for name in names if name != "help"]
@@ -35,6 +36,19 @@ def options(program: str) -> list[str]:
     """The options of all commands, long and short, from their helps."""
     helps = [subprocess.run([program, name, "--help"], stdout=subprocess.PIPE, text=True).stdout for name in commands(program)]
     return sorted(set(re.findall(r"(?<!\S)--?[a-z][a-z-]*\b", " ".join(helps))))
+
+
+def written_at(terminal: int) -> str:
+    """What was written to a terminal whose other side is closed, and which is closed here then."""
+    parts = []
+    try:
+        while part := os.read(terminal, 65_536):
+            parts.append(part)
+    except OSError:
+        # Nothing is left.
+        pass
+    os.close(terminal)
+    return b"".join(parts).decode()
 
 
 class Count:

@@ -6,6 +6,7 @@ ghost use Rattle.waff_answer.specs.Answers.{bytes_of};
 ghost use Rattle.waff_answer.specs.Ends.{Ends, IsRefused};
 ghost use Rattle.waff_answer.specs.Runs.{EndsTask};
 
+use crate::advice::{advise, advise_part};
 use crate::answers::print;
 use crate::runs::answer_run;
 use std::alloc::Global;
@@ -49,7 +50,7 @@ pub fn end<R: Threads + Wait + Clock + Files + Opens + Eprint + Sync, W: Write, 
 
 /// Writes the answer to the question, or to the error stream why there is none, and gives the exit
 /// status.
-pub fn answer<R: Threads + Wait + Sync, W: Write, E: ErrorStream>(
+pub fn answer<R: Threads + Wait + Eprint + Sync, W: Write, E: ErrorStream>(
     rt: &R,
     alloc: Global,
     question: &Question,
@@ -60,8 +61,15 @@ pub fn answer<R: Threads + Wait + Sync, W: Write, E: ErrorStream>(
         (W.contents out.new) (E.holds err.old) (E.holds err.new) (E.failed err.new) result }
 {
     match print(rt, alloc, question, out) {
-        Ok(status) => status,
-        Err(error) => fail(alloc, error, err),
+        Ok(status) => {
+            advise_part(rt, question);
+            status
+        }
+        Err(error) => {
+            let status = fail(alloc, error, err);
+            advise(rt, alloc, question, error);
+            status
+        }
     }
 }
 

@@ -1,5 +1,6 @@
 //! What the program answers to a question, and how it ends.
 //!
+//! - `advice`: what is told at a terminal below the line of an error, and of a large picture.
 //! - `answers`: which command answers what is asked, of which files; what is written of it.
 //! - `ending`: the answer on the output, or the line of an error on the error stream, and the exit
 //!   status.
@@ -11,6 +12,7 @@
 //! was read, which may be a refusal of the words or of a file.
 #![tactic(auto)]
 
+mod advice;
 mod answers;
 mod ending;
 mod runs;

@@ -7,6 +7,7 @@ ghost use Rattle.waff_record.specs.Runs.{AreRunTexts};
 ghost use Rattle.waff_answer.specs.Answers.{bytes_of, first, second};
 ghost use Rattle.waff_answer.specs.Runs.{EndsRun, HasPart, IsRunText, run_message, run_status};
 
+use crate::advice::advise_run;
 use crate::answers::file;
 use itoa::Buffer;
 use std::alloc::Global;
@@ -36,7 +37,7 @@ pub fn answer_run<
         Ok(()) => 0,
         Err(error) => {
             let status = tell(alloc, &error, err);
-            tell_larger_tick(rt, task, &error);
+            advise_run(rt, alloc, task, &error);
             drop(error);
             status
         }
@@ -86,15 +87,6 @@ fn status_of(error: &RunError) -> u8
         RunError::Folder => 4,
         RunError::File(_) => 4,
         RunError::Run => 4,
-    }
-}
-
-/// At a terminal: what is to be done where a message ran for too many ticks.
-fn tell_larger_tick(rt: &impl Eprint, task: &RunTask, error: &RunError) {
-    if task.loud && matches!(error, RunError::Tick(_)) {
-        let _ = rt.eprintln(
-            "the trace has to be made with a larger tick; --tick alone would stretch its releases and think times too",
-        );
     }
 }
 

@@ -3,6 +3,8 @@
 #[derive(Clone, Copy)]
 pub struct CommandWords {
     pub name: &'static str,
+    /// Whether a new user wants it first. The help of the program has the others in groups.
+    pub is_first: bool,
     pub about: &'static str,
     /// Its words: those for files, and then its options.
     pub words: &'static [Word],
@@ -127,12 +129,8 @@ const RANKED: FileWord = FileWord {
 /// The commands, in the order of the help.
 pub static COMMANDS: &[CommandWords] = &[
     CommandWords {
-        name: "assign",
-        about: "Prints the affinity in which each message runs",
-        words: &[Word::File(HIERARCHY), Word::File(TRACE)],
-    },
-    CommandWords {
         name: "plan",
+        is_first: true,
         about: "Prints a plan without a limit on workers, or for a number of them",
         words: &[
             Word::File(HIERARCHY),
@@ -142,32 +140,8 @@ pub static COMMANDS: &[CommandWords] = &[
         ],
     },
     CommandWords {
-        name: "check",
-        about: "Prints the first fault of a plan, or how good the plan is",
-        words: &[Word::File(HIERARCHY), Word::File(TRACE), Word::File(PLAN)],
-    },
-    CommandWords {
-        name: "explain",
-        about: "Explains the first fault, or the verdict on the plan, in plain words",
-        words: &[
-            Word::File(HIERARCHY),
-            Word::File(FileWord {
-                required: false,
-                ..TRACE
-            }),
-            Word::File(FileWord {
-                required: false,
-                ..PLAN
-            }),
-        ],
-    },
-    CommandWords {
-        name: "rate",
-        about: "Prints how good a plan is, whoever made it",
-        words: &[Word::File(HIERARCHY), Word::File(TRACE), Word::File(PLAN)],
-    },
-    CommandWords {
         name: "sweep",
+        is_first: true,
         about: "Prints how long the trace takes, by the number of workers",
         words: &[
             Word::File(HIERARCHY),
@@ -178,6 +152,7 @@ pub static COMMANDS: &[CommandWords] = &[
     },
     CommandWords {
         name: "limits",
+        is_first: true,
         about: "Prints what limits a trace: workers, clients, data, tree or order",
         words: &[
             Word::File(HIERARCHY),
@@ -187,7 +162,45 @@ pub static COMMANDS: &[CommandWords] = &[
         ],
     },
     CommandWords {
+        name: "assign",
+        is_first: false,
+        about: "Prints the affinity in which each message runs",
+        words: &[Word::File(HIERARCHY), Word::File(TRACE)],
+    },
+    CommandWords {
+        name: "needs",
+        is_first: false,
+        about: "Prints for which earlier messages each message has to wait",
+        words: &[Word::File(HIERARCHY), Word::File(TRACE)],
+    },
+    CommandWords {
+        name: "check",
+        is_first: false,
+        about: "Prints the first fault of a plan, or how good the plan is",
+        words: &[Word::File(HIERARCHY), Word::File(TRACE), Word::File(PLAN)],
+    },
+    CommandWords {
+        name: "rate",
+        is_first: false,
+        about: "Prints how good a plan is, whoever made it",
+        words: &[Word::File(HIERARCHY), Word::File(TRACE), Word::File(PLAN)],
+    },
+    CommandWords {
+        name: "draw",
+        is_first: false,
+        about: "Prints a picture of a plan",
+        words: &[
+            Word::File(HIERARCHY),
+            Word::File(TRACE),
+            Word::File(PLAN),
+            Word::Picture,
+            Word::From,
+            Word::To,
+        ],
+    },
+    CommandWords {
         name: "where",
+        is_first: false,
         about: "Prints where the time goes, by affinity, by name or by client",
         words: &[
             Word::File(HIERARCHY),
@@ -201,6 +214,7 @@ pub static COMMANDS: &[CommandWords] = &[
     },
     CommandWords {
         name: "waits",
+        is_first: false,
         about: "Prints who waits for whom, and how long",
         words: &[
             Word::File(HIERARCHY),
@@ -213,6 +227,7 @@ pub static COMMANDS: &[CommandWords] = &[
     },
     CommandWords {
         name: "why",
+        is_first: false,
         about: "Prints why messages run above the owner of their first cell",
         words: &[
             Word::File(HIERARCHY),
@@ -221,29 +236,39 @@ pub static COMMANDS: &[CommandWords] = &[
         ],
     },
     CommandWords {
-        name: "needs",
-        about: "Prints for which earlier messages each message has to wait",
-        words: &[Word::File(HIERARCHY), Word::File(TRACE)],
+        name: "compare",
+        is_first: false,
+        about: "Compares a classical and a hierarchical tree on one trace",
+        words: &[
+            Word::File(FileWord {
+                help: "A hierarchy, a TOML file",
+                ..HIERARCHY
+            }),
+            Word::File(OTHER),
+            Word::File(TRACE),
+            Word::PlanWorkers(true),
+        ],
     },
     CommandWords {
-        name: "draw",
-        about: "Prints a picture of a plan",
+        name: "rank",
+        is_first: false,
+        about: "Prints how several trees serve one trace",
         words: &[
-            Word::File(HIERARCHY),
             Word::File(TRACE),
-            Word::File(PLAN),
-            Word::Picture,
-            Word::From,
-            Word::To,
+            Word::File(RANKED),
+            Word::PlanWorkers(true),
+            Word::Rule,
         ],
     },
     CommandWords {
         name: "replay",
+        is_first: false,
         about: "Runs the messages on threads, and prints the cells at the end",
         words: &[Word::File(HIERARCHY), Word::File(TRACE), Word::Threads],
     },
     CommandWords {
         name: "run",
+        is_first: false,
         about: "Runs the messages on files, and prints the plan of what happened",
         words: &[
             Word::File(HIERARCHY),
@@ -259,26 +284,19 @@ pub static COMMANDS: &[CommandWords] = &[
         ],
     },
     CommandWords {
-        name: "compare",
-        about: "Compares a classical and a hierarchical tree on one trace",
+        name: "explain",
+        is_first: false,
+        about: "Explains the first fault, or the verdict on the plan, in plain words",
         words: &[
+            Word::File(HIERARCHY),
             Word::File(FileWord {
-                help: "A hierarchy, a TOML file",
-                ..HIERARCHY
+                required: false,
+                ..TRACE
             }),
-            Word::File(OTHER),
-            Word::File(TRACE),
-            Word::PlanWorkers(true),
-        ],
-    },
-    CommandWords {
-        name: "rank",
-        about: "Prints how several trees serve one trace",
-        words: &[
-            Word::File(TRACE),
-            Word::File(RANKED),
-            Word::PlanWorkers(true),
-            Word::Rule,
+            Word::File(FileWord {
+                required: false,
+                ..PLAN
+            }),
         ],
     },
 ];

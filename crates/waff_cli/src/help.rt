@@ -35,15 +35,49 @@ macro_rules! with_statuses {
             $help,
             "\n\n",
             $statuses,
-            "\n  2  the words are refused",
+            "\n  2  bad arguments",
             "\n  3  a file is refused",
             "\n  4  something could not be read or written, or memory was refused",
         )
     };
 }
 
-/// What the long help of the program ends with.
+/// What the short help of the program ends with: the commands that it does not begin with, by what they
+/// are about.
+pub const WAFF_SHORT: &str = "\
+Plans:                assign, needs, check, rate, draw
+What limits a trace:  where, waits, why
+Trees:                compare, rank
+This machine:         replay, run
+Faults:               explain
+
+Without words: the plan of what standard input holds.";
+
+/// What the long help of the program ends with. The commands have the words of their own helps.
 pub const WAFF: &str = "\
+Plans:
+  assign   Prints the affinity in which each message runs
+  needs    Prints for which earlier messages each message has to wait
+  check    Prints the first fault of a plan, or how good the plan is
+  rate     Prints how good a plan is, whoever made it
+  draw     Prints a picture of a plan
+
+What limits a trace:
+  where    Prints where the time goes, by affinity, by name or by client
+  waits    Prints who waits for whom, and how long
+  why      Prints why messages run above the owner of their first cell
+
+Trees:
+  compare  Compares a classical and a hierarchical tree on one trace
+  rank     Prints how several trees serve one trace
+
+This machine:
+  replay   Runs the messages on threads, and prints the cells at the end
+  run      Runs the messages on files, and prints the plan of what happened
+
+Faults:
+  explain  Explains the first fault, or the verdict on the plan, in plain words
+
 Example: waff plan hier.toml trace.csv | waff check hier.toml trace.csv -
 
 HIER is a hierarchy, a TOML file; TRACE a trace, a CSV file; PLAN what waff plan

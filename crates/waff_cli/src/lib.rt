@@ -6,6 +6,7 @@
 //! - `run_words`: the words of `run`.
 //! - `files`: files and standard input, read whole.
 //! - `refusal`: why there is nothing to answer, and what is said then.
+//! - `tips`: what helps at a terminal, below a fault and where an option is refused.
 //! - `threads`: how many threads a replay has.
 //!
 //! The words are read before any file, so a request holds names of files and numbers within their
@@ -20,6 +21,7 @@ mod question;
 mod refusal;
 mod run_words;
 mod threads;
+mod tips;
 mod words;
 
 pub use parser::ProgramVersion;
@@ -27,4 +29,5 @@ pub use question::{Question, RunTask, Task, Terminals, read_task};
 pub use refusal::Refusal;
 pub use run_words::RunWords;
 pub use threads::thread_count;
+pub use tips::{NO_MEMORY, NOT_WRITTEN};
 pub use words::{Asked, Drawing};

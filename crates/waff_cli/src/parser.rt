@@ -43,7 +43,8 @@ fn waff<'a>(alloc: Global, version: ProgramVersion) -> Command<'a> {
         .version(version.short)
         .long_version(version.long)
         .about("Plans messages on a tree of affinities, and shows how much can run in parallel")
-        .after_help("Without words: the plan of what standard input holds.")
+        .subcommand_help_heading("Begin with")
+        .after_help(help::WAFF_SHORT)
         .after_long_help(help::WAFF)
 }
 
@@ -53,6 +54,7 @@ fn command<'a>(alloc: Global, words: &'static CommandWords) -> Result<Command<'a
     push_args(alloc, words.words, &mut args)?;
     Command::new(alloc, words.name)
         .about(words.about)
+        .hide(!words.is_first)
         .after_long_help(help::of(words.name))
         .args(args)
 }

@@ -8,7 +8,7 @@ use crate::parser::ProgramVersion;
 use crate::refusal::Refusal;
 use crate::run_words::RunWords;
 use crate::words::{Asked, Request, RunRequest, Wanted, read_words};
-use std::alloc::Global;
+use std::alloc::{AllocError, Global};
 use std::rt::Runtime;
 use std::{env, io};
 use waff_io::ErrorStream;
@@ -18,6 +18,8 @@ use waff_io::ErrorStream;
 pub struct Question {
     pub asked: Asked,
     pub files: Vec<Vec<u8>>,
+    /// The names of the files where somebody reads standard error, else none.
+    pub names: Vec<String>,
     ghost limits: { IsWithinLimits asked } by { within_limits-prop asked },
     ghost taken: { TakesFiles asked (length files.items) },
 }
@@ -34,6 +36,8 @@ pub enum Task {
 pub struct RunTask {
     pub words: RunWords,
     pub files: Vec<Vec<u8>>,
+    /// The names of the files where somebody reads standard error, else none.
+    pub names: Vec<String>,
     /// Whether somebody reads standard error.
     pub loud: bool,
 }
@@ -57,6 +61,19 @@ const FOR_A_FILE: &str = "waff: reads the file - from standard input, up to its 
 /// Reads the words that the program was started with, and the files that they name. What is wrong with
 /// them is told on standard error, which `err` is too.
 pub fn read_task<R: Runtime + AllocGlobal, E: ErrorStream>(
+    rt: &R,
+    version: ProgramVersion,
+    terminals: Terminals,
+    err: &mut E,
+) -> Result<Task, Refusal> {
+    match read_words_and_files(rt, version, terminals, err) {
+        Err(Refusal::Memory) if terminals.error => Err(Refusal::no_memory(rt, rt.alloc(), err)),
+        read => read,
+    }
+}
+
+/// Reads the words and the files.
+fn read_words_and_files<R: Runtime + AllocGlobal, E: ErrorStream>(
     rt: &R,
     version: ProgramVersion,
     terminals: Terminals,
@@ -86,7 +103,7 @@ fn task_of<R: Runtime, E: ErrorStream>(
     terminals: Terminals,
     err: &mut E,
 ) -> Result<Task, Refusal> {
-    match read_words(rt, alloc, version, words) {
+    match read_words(rt, alloc, version, words, terminals.error) {
         Ok(Wanted::Answer(request)) => match question_of(rt, alloc, request, terminals, err) {
             Ok(question) => Ok(Task::Question(question)),
             Err(refusal) => Err(refusal),
@@ -108,6 +125,7 @@ fn run_of<R: Runtime, E: ErrorStream>(
         words,
         files: names,
     } = request;
+    let kept = kept_names(alloc, names.as_slice(), terminals)?;
     let waiting = if terminals.input {
         Some(FOR_A_FILE)
     } else {
@@ -117,6 +135,7 @@ fn run_of<R: Runtime, E: ErrorStream>(
         Ok(files) => Ok(Task::Run(RunTask {
             words,
             files,
+            names: kept,
             loud: terminals.error,
         })),
         Err(unread) => Err(unread.refusal(rt, alloc, told(false, terminals), err)),
@@ -135,13 +154,39 @@ fn question_of<R: Runtime, E: ErrorStream>(
         asked,
         files: names,
     } = request;
+    let kept = kept_names(alloc, names.as_slice(), terminals)?;
     match read_files(rt, alloc, names.as_slice(), waiting(&asked, terminals)) {
-        Ok(files) => Ok(Question { asked, files }),
+        Ok(files) => Ok(Question {
+            asked,
+            files,
+            names: kept,
+        }),
         Err(unread) => {
             let is_explained = matches!(asked, Asked::Explain);
             Err(unread.refusal(rt, alloc, told(is_explained, terminals), err))
         }
     }
+}
+
+/// These names, where somebody reads standard error, and else none.
+fn kept_names(
+    alloc: Global,
+    names: &[&str],
+    terminals: Terminals,
+) -> Result<Vec<String>, AllocError> {
+    let mut kept = Vec::new(alloc);
+    if terminals.error {
+        push_copies(alloc, names, &mut kept)?;
+    }
+    Ok(kept)
+}
+
+/// Appends copies of these names.
+fn push_copies(alloc: Global, names: &[&str], kept: &mut Vec<String>) -> Result<(), AllocError> {
+    for name in names {
+        kept.push(name.to_string(alloc)?)?;
+    }
+    Ok(())
 }
 
 /// What is said before standard input is read, where somebody types it.

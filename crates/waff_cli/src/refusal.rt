@@ -3,6 +3,7 @@ ghost use Rattle.std.specs.Prelude.{◌≡◌};
 ghost use Rattle.waff_io.specs.Writing.{Tells, WritesOrFails};
 ghost use Rattle.waff_cli.specs.Refusals.{refusal_status, refusal_text};
 
+use crate::tips::{NO_MEMORY, NOT_WRITTEN, text_with_tip};
 use clap::error::ErrorKind;
 use itoa::Buffer;
 use std::alloc::{AllocError, AllocFailed, Global};
@@ -41,17 +42,38 @@ impl<T: Drop> From<AllocFailed<T>> for Refusal {
 }
 
 impl Refusal {
-    /// The refusal of this error, which is printed: help on standard output, what is wrong on
-    /// standard error.
-    pub(crate) fn of<R: Print + Eprint>(rt: &R, error: &clap::Error) -> Refusal {
+    /// The refusal of this error of the words of a command, which is printed: help on standard output,
+    /// what is wrong on standard error. Where that is a terminal it is loud, and has a tip that helps.
+    pub(crate) fn of<R: Print + Eprint>(
+        rt: &R,
+        alloc: Global,
+        error: &clap::Error,
+        command: &str,
+        loud: bool,
+    ) -> Refusal {
         if error.kind() == ErrorKind::OutOfMemory {
             return Refusal::Memory;
         }
+        if loud && error.use_stderr() {
+            return match text_with_tip(alloc, error, command) {
+                Ok(text) => Refusal::of_words(rt, text.as_str()),
+                Err(_) => Refusal::Memory,
+            };
+        }
         if error.print(rt).is_err() && !error.use_stderr() {
             let _ = rt.eprintln("waff: Write");
+            if loud {
+                let _ = rt.eprintln(NOT_WRITTEN);
+            }
             return Refusal::Told(FAILED);
         }
         Refusal::Told(error.exit_code() as u8)
+    }
+
+    /// The refusal of words for what this text says, which is printed.
+    fn of_words(rt: &impl Eprint, text: &str) -> Refusal {
+        let _ = rt.eprint(text);
+        Refusal::Told(REFUSED)
     }
 
     /// Says why, where that is not told yet, and gives the exit status. Where the error stream fails,
@@ -101,5 +123,16 @@ impl Refusal {
     pub(crate) fn because(rt: &impl Eprint, why: &str) -> Refusal {
         let _ = eprintln!(rt; "error: {why}\n\nFor more information, try '--help'.");
         Refusal::Told(REFUSED)
+    }
+
+    /// The refusal for memory, which is told, and below it what that is.
+    pub(crate) fn no_memory<E: ErrorStream>(
+        rt: &impl Eprint,
+        alloc: Global,
+        err: &mut E,
+    ) -> Refusal {
+        let status = Refusal::Memory.report(alloc, err);
+        let _ = rt.eprintln(NO_MEMORY);
+        Refusal::Told(status)
     }
 }

@@ -103,16 +103,25 @@ pub enum Drawing {
 }
 
 /// Reads the words, the program's own name first. Where they are refused, or ask for help, that is
-/// printed, and the refusal has the exit status.
+/// printed, and the refusal has the exit status; it is loud where standard error is a terminal.
 pub fn read_words<'a, R: Print + Eprint>(
     rt: &R,
     alloc: Global,
     version: ProgramVersion,
     words: &'a [String],
+    loud: bool,
 ) -> Result<Wanted<'a>, Refusal> {
     match parser(alloc, version)?.try_get_matches_from(words) {
         Ok(matches) => wanted_of(rt, alloc, &matches),
-        Err(error) => Err(Refusal::of(rt, &error)),
+        Err(error) => Err(Refusal::of(rt, alloc, &error, command_of(words), loud)),
+    }
+}
+
+/// The word for the command, where there is one.
+fn command_of(words: &[String]) -> &str {
+    match words.get(1) {
+        Some(word) => word.as_str(),
+        None => "",
     }
 }
 
