@@ -16,7 +16,8 @@ use std::alloc::{AllocError, Global};
 use std::marker::Model;
 use waff_assign::Case;
 
-/// The line proposed a message that may not begin. It does not happen: a run that meets it has to stop.
+/// The line proposed a message that may not begin, or will let none begin any more: memory was refused, or a message
+/// ran for too long. Nothing has changed. No clause says that the line proposes well, so a run that meets this has to stop.
 #[derive(Clone, Copy)]
 pub struct Unready;
 

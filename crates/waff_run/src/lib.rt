@@ -1,14 +1,16 @@
 //! The messages of a trace run on files, and the plan of what happened.
 //!
 //! The cells lie in files of a folder; threads do the operations of messages, each when the line of the run
-//! lets it begin. What happened is told by `waff_record`.
+//! lets it begin. What they noted is a plan that obeys, whoever ran when. It is told by `waff_record`.
 //! - `running`: a run, from the accepted files to the two texts; `fault`: why there are none.
-//! - `workers`: the threads, over one lock round the line; `perform`: the operations of a message.
+//! - `workers`: the threads, over one lock round the line; `going`: the line, whose type says of which run it is;
+//!   `perform`: the operations of a message; `touched`: the files that it touches.
 //! - `store`: files, or what a test has in their place; `places`: in which file a cell lies, and where;
 //!   `spots`: the cells that a trace names.
 #![tactic(auto)]
 
 mod fault;
+mod going;
 mod perform;
 mod places;
 mod running;
@@ -16,10 +18,12 @@ mod spots;
 mod store;
 #[cfg(test)]
 mod tests;
+mod touched;
 mod workers;
 
 pub use fault::RunError;
+pub use perform::Syncs;
 pub use places::{Places, Spot};
 pub use running::{Settings, planned_length, run_on};
 pub use store::{Folder, Opens, Store, StoreFault};
-pub use workers::Pace;
+pub use workers::{Pace, Stopped, run};

@@ -3,6 +3,7 @@
 use crate::places::{Places, Spot};
 use crate::spots::{call_length, cells};
 use crate::store::{Store, StoreFault};
+use crate::touched::Touched;
 use std::alloc::{AllocError, Global};
 use waff_model::{Cell, Op, Ops};
 
@@ -21,8 +22,8 @@ pub enum Syncs {
 pub struct Room {
     one: Vec<u8>,
     two: Vec<u8>,
-    /// The files that are to be synced, each once.
-    touched: Vec<usize>,
+    /// The files that are to be synced.
+    touched: Touched,
 }
 
 impl Room {
@@ -32,7 +33,7 @@ impl Room {
         Ok(Room {
             one: vec![in alloc; 0; bytes.saturating_mul(cells)]?,
             two: vec![in alloc; 0; bytes]?,
-            touched: Vec::with_capacity(alloc, places.files())?,
+            touched: Touched::none(alloc, places.files())?,
         })
     }
 }
@@ -57,8 +58,8 @@ pub fn perform<S: Store>(
     if syncs == Syncs::None {
         return Ok(());
     }
-    touch(places, ops, syncs, room);
-    for file in room.touched.iter() {
+    touch(places, ops, syncs, &mut room.touched);
+    for file in room.touched.as_slice() {
         store.sync(*file)?;
     }
     Ok(())
@@ -143,8 +144,8 @@ fn repeat(bytes: &mut [u8], value: u64) {
 }
 
 /// Notes the files that are to be synced, each once.
-fn touch(places: &Places, ops: &Ops, syncs: Syncs, room: &mut Room) {
-    room.touched.clear();
+fn touch(places: &Places, ops: &Ops, syncs: Syncs, touched: &mut Touched) {
+    touched.clear();
     for at in 0..ops.len() {
         let op = ops.get(at);
         let (cell, other) = cells(op);
@@ -154,19 +155,15 @@ fn touch(places: &Places, ops: &Ops, syncs: Syncs, room: &mut Room) {
             (_, Op::Swap { .. }) => (Some(cell), other),
             _ => (Some(cell), None),
         };
-        touch_one(places, first, room);
-        touch_one(places, second, room);
+        touch_one(places, first, touched);
+        touch_one(places, second, touched);
     }
 }
 
-/// Notes the file of a cell, where there is one and it is not noted.
-fn touch_one(places: &Places, cell: Option<Cell>, room: &mut Room) {
-    let Some(cell) = cell else {
-        return;
-    };
-    let file = places.spot(cell).file;
-    if !room.touched.contains(&file) && room.touched.len() < room.touched.capacity() {
-        room.touched.push_reserved(file);
+/// Notes the file of a cell, where there is one.
+fn touch_one(places: &Places, cell: Option<Cell>, touched: &mut Touched) {
+    if let Some(cell) = cell {
+        touched.insert(places.spot(cell).file);
     }
 }
 

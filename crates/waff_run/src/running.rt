@@ -1,8 +1,10 @@
 //! A run, from the accepted files to the two texts.
 
 ghost use Rattle.std.specs.Prelude.{IfOk, string_bytes};
+ghost use Rattle.waff_inputs.specs.Inputs.{instance_under};
 ghost use Rattle.waff_plan.specs.Bound.{IsWorkers};
 ghost use Rattle.waff_record.specs.Runs.{AreRunTexts};
+ghost use Rattle.waff_run.specs.Turns.{AreRunTurns, course_by};
 
 use crate::fault::RunError;
 use crate::perform::{Room, Syncs, fill};
@@ -74,7 +76,11 @@ fn turns_of<R: Threads + Wait + Clock + Eprint + Sync, S: Store + Sync>(
     store: &S,
     places: &Places,
     settings: &Settings<'_>,
-) -> Result<Vec<Turn>, RunError> {
+) -> Result<Vec<Turn>, RunError>
+    requires workers { IsWorkers settings.now.pace.workers }
+    ensures { IfOk result (λ turns. AreRunTurns (course_by (instance_under accepted.now.layout
+        accepted.now.assigned accepted.now.trace) settings.now.pace.workers) turns.items) }
+{
     let longest = longest_call(&accepted.trace, places);
     if settings.fill {
         fill_all(alloc, accepted, store, places)?;

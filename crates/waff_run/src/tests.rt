@@ -7,6 +7,7 @@ use crate::fault::RunError;
 use crate::places::{Places, Spot};
 use crate::running::{Settings, run_on};
 use crate::store::{Store, StoreFault};
+use crate::touched::Touched;
 use crate::workers::Pace;
 use std::alloc::Global;
 use std::marker::Sync;
@@ -174,5 +175,18 @@ fn tells_a_fault_of_the_store(rt: HostRuntime) -> Result<(), Fail> {
         Err(RunError::File(name)) => assert_eq!(rt; name.as_str(), "s.1"),
         _ => return Err(Fail::new("no fault")),
     }
+    Ok(())
+}
+
+#[test]
+fn notes_each_file_once(rt: HostRuntime) -> Result<(), Fail> {
+    let mut touched = Touched::none(rt.alloc(), 3)?;
+    for file in [2, 0, 2, 0] {
+        touched.insert(file);
+    }
+    assert_eq!(rt; touched.as_slice(), [2, 0].as_slice());
+    touched.clear();
+    touched.insert(0);
+    assert_eq!(rt; touched.as_slice(), [0].as_slice());
     Ok(())
 }

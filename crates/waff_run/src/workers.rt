@@ -1,11 +1,19 @@
 //! The workers of a run: threads over one lock, round the line.
 
+ghost use Rattle.std.specs.Bool.{OnTrue};
+ghost use Rattle.std.specs.Prelude.{◌≡◌, ℕ, All, IfOk, true};
+ghost use Rattle.waff_assign.specs.Case.{instance_of};
+ghost use Rattle.waff_line.specs.Machine.{IsCourse};
+ghost use Rattle.waff_plan.specs.Bound.{IsWorkers};
+ghost use Rattle.waff_run.specs.Turns.{AreRunTurns, course_by};
+
+use crate::going::{Going, RunOf};
 use crate::perform::{Room, Syncs, perform};
 use crate::places::Places;
 use crate::store::Store;
 use std::alloc::{AllocError, Global};
 use std::hint::spin_loop;
-use std::marker::Sync;
+use std::marker::{Brand, Send, Sync};
 use std::rt::Clock;
 use std::sync::atomic::{AtomicU64, Ordering};
 use std::sync::{Condvar, CondvarTimeouts, Mutex, MutexGuard, Wait};
@@ -13,7 +21,7 @@ use std::thread;
 use std::thread::Threads;
 use std::time::{Duration, Instant};
 use waff_assign::Case;
-use waff_line::{Ended, Line, Turn};
+use waff_line::{Ended, Line, Turn, laws};
 use waff_plan::NEVER;
 
 /// How often a worker looks before it sleeps.
@@ -51,8 +59,8 @@ pub enum Stopped {
 
 /// What is behind the lock.
 #[derive(Drop)]
-struct Locked<'a> {
-    line: Line<'a>,
+struct Locked<'a, C: RunOf> {
+    line: Going<'a, C>,
     stopped: Option<Stopped>,
     /// The time of the line until which a worker sleeps, `NEVER` where none has a deadline.
     keeper: u64,
@@ -64,12 +72,12 @@ struct Locked<'a> {
 
 /// What all workers share.
 #[derive(Drop)]
-struct Shared<'r, 'a, S> {
+struct Shared<'r, 'a, S, C: RunOf> {
     case: Case<'a>,
     store: &'r S,
     places: &'r Places,
     syncs: &'r [Syncs],
-    locked: &'r Mutex<Locked<'a>>,
+    locked: &'r Mutex<Locked<'a, C>>,
     changed: &'r Condvar,
     /// Changes whenever a message ends.
     moves: &'r AtomicU64,
@@ -78,7 +86,7 @@ struct Shared<'r, 'a, S> {
 }
 
 /// Runs the messages of a case on a store, by threads. `syncs` says for each message which files are synced at
-/// its end.
+/// its end. That it tells what the threads did, and when, no clause says.
 pub fn run<R: Threads + Wait + Clock + Eprint + Sync, S: Store + Sync>(
     rt: &R,
     alloc: Global,
@@ -88,17 +96,40 @@ pub fn run<R: Threads + Wait + Clock + Eprint + Sync, S: Store + Sync>(
     syncs: &[Syncs],
     longest: usize,
     pace: Pace,
-) -> Result<Vec<Turn>, Stopped> {
-    let line = Line::of(alloc, case, pace.workers).map_err(|_| Stopped::Memory)?;
-    let rooms = rooms(alloc, places, longest, pace.workers).map_err(|_| Stopped::Memory)?;
-    let begin = Instant::now(rt).map_err(|_| Stopped::Memory)?;
-    let locked = Mutex::new(Locked {
-        line,
-        stopped: None,
-        keeper: NEVER,
-        asleep: 0,
-        told: 0,
-    });
+) -> Result<Vec<Turn>, Stopped>
+    requires workers { IsWorkers pace.workers }
+    ensures { IfOk result (λ turns.
+        AreRunTurns (course_by (instance_of case.entry) pace.workers) turns.items) }
+{
+    run_at::<Brand, R, S>(rt, alloc, case, store, places, syncs, longest, pace)
+}
+
+/// The same for the course that C names.
+fn run_at<C: RunOf + Send + Sync, R: Threads + Wait + Clock + Eprint + Sync, S: Store + Sync>(
+    rt: &R,
+    alloc: Global,
+    case: Case<'_>,
+    store: &S,
+    places: &Places,
+    syncs: &[Syncs],
+    longest: usize,
+    pace: Pace,
+) -> Result<Vec<Turn>, Stopped>
+    requires workers { IsWorkers pace.workers }
+    requires course { course_by (instance_of case) pace.workers ≡ C.course }
+    ensures { IfOk result (λ turns. AreRunTurns C.course turns.items) }
+{
+    let _messages = case.trace.len();
+    let Ok(line) = Line::of(alloc, case, pace.workers) else {
+        return Err(Stopped::Memory);
+    };
+    let Ok(rooms) = rooms(alloc, places, longest, pace.workers) else {
+        return Err(Stopped::Memory);
+    };
+    let Ok(begin) = Instant::now(rt) else {
+        return Err(Stopped::Memory);
+    };
+    let locked = Mutex::new(Locked::<C>::of(Going::of(line)));
     let changed = Condvar::new();
     let moves = AtomicU64::new(0);
     let shared = Shared {
@@ -112,17 +143,27 @@ pub fn run<R: Threads + Wait + Clock + Eprint + Sync, S: Store + Sync>(
         begin,
         pace,
     };
-    let shared = &shared;
-    let worked = thread::map_indices(
-        rt,
-        alloc,
-        pace.workers as usize,
-        &|at: usize| { work(rt, shared, &rooms, at) },
-    );
-    if worked.is_err() {
+    if !work_all(rt, alloc, &shared, rooms.as_slice()) {
         return Err(Stopped::Memory);
     }
     ended(alloc, &locked.into_inner())
+}
+
+/// Works on each worker, and whether memory was there for it.
+fn work_all<C: RunOf + Send + Sync, R: Threads + Wait + Clock + Eprint + Sync, S: Store + Sync>(
+    rt: &R,
+    alloc: Global,
+    shared: &Shared<'_, '_, S, C>,
+    rooms: &[Mutex<Room>],
+) -> bool {
+    let workers = shared.pace.workers as usize;
+    thread::map_indices(
+        rt,
+        alloc,
+        workers,
+        &|at: usize| { work(rt, shared, rooms, at) },
+    )
+    .is_ok()
 }
 
 /// The room of each worker.
@@ -140,20 +181,38 @@ fn rooms(
 }
 
 /// What happened, where the run came to its end.
-fn ended(alloc: Global, locked: &Locked<'_>) -> Result<Vec<Turn>, Stopped> {
+fn ended<C: RunOf>(alloc: Global, locked: &Locked<'_, C>) -> Result<Vec<Turn>, Stopped>
+    requires { IsCourse C.course }
+    ensures { IfOk result (λ turns. AreRunTurns C.course turns.items) }
+{
     if let Some(stopped) = locked.stopped {
         return Err(stopped);
     }
-    match Vec::from_slice(alloc, locked.line.turns()) {
+    laws::run_obeys();
+    laws::run_is_worker_plan();
+    laws::workers_run_one();
+    laws::runs_once();
+    let turns = locked.line.turns();
+    if !have_ended(turns) {
+        return Err(Stopped::Line);
+    }
+    match Vec::from_slice(alloc, turns) {
         Ok(turns) => Ok(turns),
         Err(_) => Err(Stopped::Memory),
     }
 }
 
+/// Whether all messages have ended.
+fn have_ended(turns: &[Turn]) -> bool
+    ensures { OnTrue result (All (λ turn. turn.ended ≡ true) turns.now) }
+{
+    turns.iter().all(|turn| turn.ended)
+}
+
 /// Runs messages on this worker until none is left.
-fn work<R: Wait + Clock + Eprint, S: Store>(
+fn work<C: RunOf, R: Wait + Clock + Eprint, S: Store>(
     rt: &R,
-    shared: &Shared<'_, '_, S>,
+    shared: &Shared<'_, '_, S, C>,
     rooms: &[Mutex<Room>],
     at: usize,
 ) {
@@ -176,8 +235,8 @@ fn work<R: Wait + Clock + Eprint, S: Store>(
 }
 
 /// Does the operations of a message.
-fn perform_message<S: Store>(
-    shared: &Shared<'_, '_, S>,
+fn perform_message<C: RunOf, S: Store>(
+    shared: &Shared<'_, '_, S, C>,
     m: u32,
     room: &mut Room,
 ) -> Result<(), Stopped> {
@@ -196,7 +255,7 @@ fn perform_message<S: Store>(
 }
 
 /// The run ends: the other workers stop when they have done what is at hand.
-fn stop<R: Wait, S>(rt: &R, shared: &Shared<'_, '_, S>, stopped: Stopped) {
+fn stop<C: RunOf, R: Wait, S>(rt: &R, shared: &Shared<'_, '_, S, C>, stopped: Stopped) {
     let mut guard = look(rt, shared.locked);
     if guard.stopped.is_none() {
         guard.stopped = Some(stopped);
@@ -225,9 +284,9 @@ fn nanos<R: Clock>(rt: &R, begin: &Instant) -> u64 {
 
 /// Ends the message at hand, where there is one, and takes the next one that may begin; none where the run is
 /// over. The clock is read under the lock, so that messages join in the order of their issues.
-fn take<R: Wait + Clock + Eprint, S>(
+fn take<C: RunOf, R: Wait + Clock + Eprint, S>(
     rt: &R,
-    shared: &Shared<'_, '_, S>,
+    shared: &Shared<'_, '_, S, C>,
     worker: u32,
     ended: Option<u32>,
 ) -> Option<u32> {
@@ -274,10 +333,10 @@ fn take<R: Wait + Clock + Eprint, S>(
 }
 
 /// Keeps the deadline of the next issue, which is near, without sleeping.
-fn await_issue<'b, 'a, R: Wait>(
+fn await_issue<'b, 'a, C: RunOf, R: Wait>(
     rt: &R,
-    guard: MutexGuard<'b, Locked<'a>>,
-) -> MutexGuard<'b, Locked<'a>> {
+    guard: MutexGuard<'b, Locked<'a, C>>,
+) -> MutexGuard<'b, Locked<'a, C>> {
     let mut guard = guard;
     let due = guard.line.next();
     guard.keeper = due;
@@ -289,7 +348,7 @@ fn await_issue<'b, 'a, R: Wait>(
 }
 
 /// Whether a message ends while this worker looks.
-fn moves_soon<S>(shared: &Shared<'_, '_, S>, seen: u64) -> bool {
+fn moves_soon<C: RunOf, S>(shared: &Shared<'_, '_, S, C>, seen: u64) -> bool {
     for _ in 0..LOOKS {
         if shared.moves.load(Ordering::SeqCst) != seen {
             return true;
@@ -301,7 +360,7 @@ fn moves_soon<S>(shared: &Shared<'_, '_, S>, seen: u64) -> bool {
 
 /// Wakes all workers where none is needed any more, and one more where there is more to do, or where nobody
 /// waits for the next issue.
-fn wake<S>(shared: &Shared<'_, '_, S>, locked: &Locked<'_>) {
+fn wake<C: RunOf, S>(shared: &Shared<'_, '_, S, C>, locked: &Locked<'_, C>) {
     if locked.line.waiting() == 0 {
         shared.changed.notify_all();
     } else if locked.asleep > 0 && (locked.line.is_ready() || locked.line.next() < locked.keeper) {
@@ -310,11 +369,11 @@ fn wake<S>(shared: &Shared<'_, '_, S>, locked: &Locked<'_>) {
 }
 
 /// Sleeps until something changes. One worker alone keeps the deadline of the next issue.
-fn sleep<'b, 'a, R: Wait + Clock, S>(
+fn sleep<'b, 'a, C: RunOf, R: Wait + Clock, S>(
     rt: &R,
-    shared: &Shared<'_, '_, S>,
-    guard: MutexGuard<'b, Locked<'a>>,
-) -> MutexGuard<'b, Locked<'a>> {
+    shared: &Shared<'_, '_, S, C>,
+    guard: MutexGuard<'b, Locked<'a, C>>,
+) -> MutexGuard<'b, Locked<'a, C>> {
     let mut guard = guard;
     guard.asleep = guard.asleep.saturating_add(1);
     let due = guard.line.next();
@@ -333,7 +392,18 @@ fn sleep<'b, 'a, R: Wait + Clock, S>(
     guard
 }
 
-impl Locked<'_> {
+impl<'a, C: RunOf> Locked<'a, C> {
+    /// Nothing has happened to the line.
+    fn of(line: Going<'a, C>) -> Self {
+        Locked {
+            line,
+            stopped: None,
+            keeper: NEVER,
+            asleep: 0,
+            told: 0,
+        }
+    }
+
     /// Whether no message is left to begin, or the run was stopped.
     fn is_over(&self) -> bool {
         self.line.waiting() == 0 || self.stopped.is_some()

@@ -1,0 +1,100 @@
+-- The state of the line of a run, as its threads share it: events led to it.
+use Rattle.std.proofs.Common.{◌≡◌, ℕ, zero, suc, ◌<◌, ◌≤◌, inl, inr, true, false, List, [], ◌∷◌, ◌++◌, length, map, get_or, refl, ap, sym, ◌∙◌, subst, arith}
+use Rattle.std.specs.Prelude.{All, MatchOption, MatchResult, Option, None, Some, Result, Ok, Err}
+use Rattle.std.proofs.lemmas.Bool.{cases_Bool, cases_lt, false≢true}
+use Rattle.std.proofs.lemmas.List.{get_or-map, length-map}
+use Rattle.std.proofs.lemmas.List.Elements.{All-get_or}
+use Rattle.waff_assign.specs.Instance.{Instance}
+use Rattle.waff_plan.specs.Timetable.{AreTimings, timings_of}
+use Rattle.waff_plan.proofs.TimingLemmas.{length-timings_of}
+use Rattle.waff_line.specs.Laws.{AreAllEnded}
+use Rattle.waff_line.specs.Lined.{LineValue, course_in}
+use Rattle.waff_line.specs.Machine.{Course, IsCourse, IsRunning, Reaches, Runs, State, Steps, Turn, no_turn, opening, turn_of}
+use Rattle.waff_line.specs.Noted.{shown}
+use Rattle.waff_line.specs.declared.event.Event.{Event}
+use Rattle.waff_line.specs.declared.event.Event.TheVariants.{Begin, End}
+use Rattle.waff_line.specs.declared.turn.Turn.{Turn as NotedTurn}
+use Rattle.waff_line.proofs.Sound.{sound_reached}
+use Rattle.waff_run.specs.Turns.{AreReached, AreRunTurns, course_by}
+use Rattle.waff_run.proofs.Planned.{AreLaws, planned}
+
+-- one more event
+runs_more : (course : Course) (s : State) (events : List Event) (t : State) (event : Event) (u : State)
+    → Runs course s events t → Steps course t event u → Runs course s (events ++ event ∷ []) u
+runs_more course s [] t event u same step = (u, subst (λ x. Steps course x event u) (sym same) step, refl)
+runs_more course s (first ∷ events) t event u (v, leads, rest) step = (v, leads, runs_more course v events t event u rest step)
+
+-- a line of a course, to whose state events led, before an event and after it
+module _ (course : Course) (old new : LineValue) (same : course_in old ≡ course) (reached : Reaches course old.state) where
+  pub reaches_more : (event : Event) → Steps (course_in old) old.state event new.state → Reaches course new.state
+  reaches_more event step = (
+    reached.0 ++ event ∷ [],
+    runs_more course (opening course) reached.0 old.state event new.state reached.1
+        (subst (λ (c : Course). Steps c old.state event new.state) same step),
+  )
+
+  pub reaches_same : new ≡ old → Reaches course new.state
+  reaches_same is = subst (λ (line : LineValue). Reaches course line.state) (sym is) reached
+
+  pub reaches_begun : {E : Type 0} (worker : ℕ) (result : Result (Option ℕ) E)
+      → MatchResult result (λ begun. MatchOption begun (new ≡ old) (λ m. Steps (course_in old) old.state (Begin worker m) new.state)) (λ _. new ≡ old)
+      → Reaches course new.state
+  reaches_begun worker (Ok None) is = reaches_same is
+  reaches_begun worker (Ok (Some m)) step = reaches_more (Begin worker m) step
+  reaches_begun worker (Err e) is = reaches_same is
+
+  pub reaches_ended : (m now : ℕ) → (IsRunning old.state m → Steps (course_in old) old.state (End m now) new.state)
+      → (¬ IsRunning old.state m → new ≡ old) → Reaches course new.state
+  reaches_ended m now step other = elim (cases_lt 0 (turn_of old.state m).worker) [
+    | inr none ↦ reaches_same (other (λ running. omega (arith, none, running.begun)))
+    | inl begun ↦ elim (cases_Bool (turn_of old.state m).ended) [
+      | inl ended ↦ reaches_same (other (λ running. false≢true (sym running.runs ∙ ended)))
+      | inr runs ↦ reaches_more (End m now) (step (record { begun = omega (arith, begun); runs = runs }))
+    ]
+  ]
+
+-- a line of the course before anything has happened
+pub reaches_opening : (course : Course) (line : LineValue) → course_in line ≡ course → line.state ≡ opening (course_in line) → Reaches course line.state
+reaches_opening course line same opens = ([], sym (opens ∙ ap (λ (c : Course). opening c) same))
+
+-- turns that such a line shows
+pub are_reached : (course : Course) (line : LineValue) (noted : List NotedTurn) → Reaches course line.state → map shown noted ≡ line.state.turns
+    → AreReached course noted
+are_reached course line noted reached is = record { state = line.state; reached = reached; shown = is }
+
+none : NotedTurn
+none = record { start = 0; finish = 0; worker = 0; after = 0; late = 0; ended = false }
+
+-- where each turn that was noted has ended, all messages have
+all_ended : (course : Course) (s : State) (noted : List NotedTurn) → map shown noted ≡ s.turns → length s.turns ≡ course.work.count
+    → All (λ turn. turn.ended ≡ true) noted → AreAllEnded course s
+all_ended course s noted is many all zero number = absurd (omega (arith, number.from))
+all_ended course s noted is many all (suc k) number =
+    let same : length (map shown noted) ≡ length s.turns = ap length is in
+    let long : k < length noted = omega (arith, number.to, many, same, length-map noted shown) in
+    ap (λ (turn : Turn). turn.ended) (ap (λ (turns : List Turn). get_or turns k no_turn) (sym is) ∙ get_or-map shown noted k none no_turn long)
+    ∙ All-get_or (λ (turn : NotedTurn). turn.ended ≡ true) noted k none long all
+
+pub run_turns : (course : Course) → IsCourse course → AreLaws course → (noted turns : List NotedTurn) → AreReached course noted
+    → All (λ turn. turn.ended ≡ true) noted → turns ≡ noted → AreRunTurns course turns
+run_turns course is laws noted turns there all same =
+    let s = there.state in
+    let ended : AreAllEnded course s = all_ended course s noted there.shown (sound_reached course is s there.reached).many all in
+    subst (λ (ts : List NotedTurn). AreRunTurns course ts) (sym same) (record {
+      events = there.reached.0;
+      state = s;
+      run = there.reached.1;
+      shown = there.shown;
+      ended = ended;
+      planned = planned course is laws there.reached.0 s there.reached.1 ended;
+    })
+
+-- the course of an instance is one
+pub is_course_by : (instance : Instance) (workers : ℕ) → AreTimings instance.trace.version (timings_of instance.trace.messages)
+    → length instance.assigned ≡ length instance.trace.messages → 1 ≤ workers → IsCourse (course_by instance workers)
+is_course_by instance workers timings long staffed = record {
+  earlier = timings.earlier;
+  alone = timings.alone;
+  many = length-timings_of instance.trace.messages ∙ sym long;
+  staffed = staffed;
+}

@@ -1,0 +1,12 @@
+use Rattle.std.proofs.Common.{subst}
+use Rattle.waff_assign.specs.Case.{instance_of}
+use Rattle.waff_line.specs.Machine.{Course, IsCourse}
+use Rattle.waff_plan.proofs.TimingLemmas.{are_timings}
+use Rattle.waff_run.proofs.Reached.{is_course_by}
+use Rattle.waff_run.proofs.workers.run_at.Goals as goal
+
+pub ended-requires : goal.ended-requires
+ended-requires g c =
+    subst (λ (course : Course). IsCourse course) c.requires.course
+    (is_course_by (instance_of c.args.case) c.args.pace.workers (are_timings c.args.case.trace.now c.len-messages.ensures.trace) c.args.case.lengths
+    c.requires.workers.from)
