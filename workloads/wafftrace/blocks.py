@@ -4,7 +4,7 @@ import re
 from argparse import Namespace
 from dataclasses import dataclass
 
-from .logs import Data, File, Lines, Meta, Refusal, Request, is_number, read_lines
+from .logs import Data, File, Lines, Meta, Refusal, Request, Rows, is_number, lines_in, lines_of, read_lines, read_plain, rows_of
 from .model import Devices, Found
 
 SECTOR = 512
@@ -123,7 +123,11 @@ def read_blkparse(asked: Namespace) -> Found:
 
 
 # A line in the form that most have.
-MSR = re.compile(r"([0-9]{1,18}),([^,]*),([0-9]{1,18}),(Read|Write),([0-9]{1,18}),([0-9]{1,18}),([0-9]{1,18})", re.ASCII)
+MSR = re.compile(
+    r"^([0-9]{1,18}),([^,\n]*,[0-9]{1,18}),(Read|Write),([0-9]{1,18}),([0-9]{1,18}),([0-9]{1,18})$", re.ASCII | re.M
+)
+# The characters of a part of a log, whose lines are taken at once where all are of that form.
+PART = 1 << 12
 
 
 class MsrReader(Reader):
@@ -132,47 +136,54 @@ class MsrReader(Reader):
     def __init__(self, log: Lines) -> None:
         super().__init__()
         self.log = log
-        self.known: dict[tuple[str, str], File] = {}
+        # Each device by its host and number.
+        self.known: dict[str, File] = {}
 
-    def read(self, lines: list[str]) -> None:
-        for number, line in enumerate(lines, 1):
-            usual = MSR.fullmatch(line)
-            if usual is not None:
-                self.request(number, usual.groups())
-                continue
-            fields = tuple(it.strip() for it in line.split(","))
-            if number == 1 and fields[0].lower() == "timestamp":
-                self.log.without["headers"] += 1
-            elif not line.strip():
-                self.log.without["blank lines"] += 1
-            elif len(fields) == 7 and fields[3].lower() in ("read", "write") and all(is_number(fields[n]) for n in (0, 2, 4, 5, 6)):
-                self.request(number, fields)
+    def read(self, text: str) -> None:
+        for first, rows, part in rows_of(text, MSR, PART):
+            self.rows(first, rows)
+            for number, line in enumerate([] if rows else lines_of(part), first):
+                fields = tuple(it.strip() for it in line.split(","))
+                if number == 1 and fields[0].lower() == "timestamp":
+                    self.log.without["headers"] += 1
+                elif not line.strip():
+                    self.log.without["blank lines"] += 1
+                elif len(fields) == 7 and fields[3].lower() in ("read", "write") and all(is_number(fields[n]) for n in (0, 2, 4, 5, 6)):
+                    usual = MSR.fullmatch(line)
+                    self.rows(number, [usual.groups() if usual else (fields[0], ",".join(fields[1:3]), *fields[3:])])
+                else:
+                    self.log.not_understood(number, line)
+
+    def rows(self, first: int, rows: Rows) -> None:
+        """Adds the requests of lines from a number on: times, devices, kinds, offsets, sizes and latencies."""
+        log, known, add = self.log, self.known, self.requests.append
+        sizes = {it: int(it) for it in {row[4] for row in rows}}
+        names = {it: "read" if it[0] in "rR" else "write" for it in {row[2] for row in rows}}
+        for number, (when, device, kind, at, size, response) in enumerate(rows, first):
+            time, offset, length, name = int(when) * 100, int(at), sizes[size], names[kind]
+            if log.latest is not None and time < log.latest:
+                log.at(time)
             else:
-                self.log.not_understood(number, line)
+                log.latest = time
+            if length == 0:
+                log.without["requests for no bytes"] += 1
+                continue
+            file = known.get(device) or self.device(number, device)
+            if offset + length > file.end:
+                file.end = offset + length
+            add(Data(time, int(response) * 100, name, name, file, offset, length))
 
-    def request(self, number: int, fields: tuple[str, ...]) -> None:
-        when, host, disk, kind, at, size, response = fields
-        time, offset, length = int(when) * 100, int(at), int(size)
-        self.log.at(time)
-        if length == 0:
-            self.log.without["requests for no bytes"] += 1
-            return
-        file = self.known.get((host, disk)) or self.device(number, host, disk)
-        if offset + length > file.end:
-            file.end = offset + length
-        name = "read" if kind[0] in "rR" else "write"
-        self.requests.append(Data(time, int(response) * 100, name, name, file, offset, length))
-
-    def device(self, number: int, host: str, disk: str) -> File:
+    def device(self, number: int, device: str) -> File:
+        host, _, disk = device.rpartition(",")
         name = re.sub(r"[^A-Za-z0-9_-]", "_", host.strip())[:16] + "-" + disk
         if len(name) > 20:
             raise Refusal(3, f"{self.log.name}:{number}: the number of the disk is too long")
-        found = self.known[host, disk] = self.store.device(name)
+        found = self.known[device] = self.store.device(name)
         return found
 
 
 def read_msr(asked: Namespace) -> Found:
-    lines = read_lines(asked.log)
-    reader = MsrReader(Lines(asked.log, len(lines)))
-    reader.read(lines)
+    text = read_plain(asked.log)
+    reader = MsrReader(Lines(asked.log, lines_in(text)))
+    reader.read(text)
     return Found(reader.store, reader.requests, [reader.log])

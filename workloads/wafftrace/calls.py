@@ -7,7 +7,6 @@ import signal
 import subprocess
 import time
 from argparse import ArgumentParser, Namespace
-from concurrent.futures import ThreadPoolExecutor
 from dataclasses import dataclass
 
 from .logs import Refusal, shown
@@ -72,10 +71,14 @@ def left(until: float | None) -> float | None:
 def told_here(program: str, calls: list[list[str]], until: float | None) -> list[str]:
     """What calls tell, where as many run at once as there are processors."""
     running: set[subprocess.Popen[str]] = set()
+    is_over = False
 
     def call(words: list[str]) -> Done:
         with subprocess.Popen(words, stdin=subprocess.DEVNULL, stdout=subprocess.PIPE, stderr=subprocess.PIPE, text=True) as child:
             running.add(child)
+            # It may have begun when those that run were ended.
+            if is_over:
+                child.kill()
             try:
                 text, told = child.communicate(timeout=left(until))
             except subprocess.TimeoutExpired:
@@ -85,6 +88,9 @@ def told_here(program: str, calls: list[list[str]], until: float | None) -> list
                 running.discard(child)
         return Done(child.returncode, text, told)
 
+    # Most scripts make no calls, and it takes long to be read.
+    from concurrent.futures import ThreadPoolExecutor
+
     pool = ThreadPoolExecutor(os.cpu_count())
     try:
         done = list(pool.map(call, calls))
@@ -92,6 +98,7 @@ def told_here(program: str, calls: list[list[str]], until: float | None) -> list
         raise Refusal(4, f"{shown(program)}: {fault.strerror}") from None
     finally:
         # Where not all is done, nobody waits for the rest.
+        is_over = True
         pool.shutdown(wait=False, cancel_futures=True)
         for child in [*running]:
             child.kill()

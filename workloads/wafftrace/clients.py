@@ -4,7 +4,7 @@ import collections
 import heapq
 import operator
 from argparse import Namespace
-from collections.abc import Callable, Iterable, Sequence
+from collections.abc import Callable, Iterable, Iterator, Sequence
 
 from . import limits
 from .logs import Data, Refusal, Request, tell
@@ -31,11 +31,7 @@ def kind_of(asked: Namespace) -> str | None:
     return kind
 
 
-# How long a request takes, in nanoseconds.
-Took = Callable[[Request], int]
-
-
-def deal(requests: list[Request], took: Took, depth: int | None, slack: int) -> None:
+def deal(requests: list[Request], depth: int | None, slack: int) -> None:
     """Gives each request a lane of its client, which is a client of its own: the one that is free longest, of two as long the one of
     the lower number, or a new one where none is free. Those of a client without latencies go to so many lanes in turn. The times of a log
     are rounded down by less than `slack` nanoseconds, so that a request may seem to begin before the one before it has ended. What
@@ -44,28 +40,40 @@ def deal(requests: list[Request], took: Took, depth: int | None, slack: int) -> 
     if depth is not None and measured:
         raise Refusal(2, "--depth: the latencies of the log tell how many requests were in flight")
     requests.sort(key=operator.attrgetter("time"))
-    lanes: dict[str, list[int]] = collections.defaultdict(list)
-    latest: dict[str, int] = {}
-    count: collections.Counter[str] = collections.Counter()
-    names: dict[tuple[str, int], str] = {}
+    lanes: dict[str, Lanes] = collections.defaultdict(Lanes)
     for it in requests:
+        of = lanes[it.client]
         if it.client in measured:
-            ends = lanes[it.client]
-            lane = latest[it.client] if it.follows else ends.index(min(ends)) if ends else 0
-            begun = ends[lane] if it.follows else it.time
-            if not ends or not it.follows and ends[lane] >= it.time + slack:
-                lane = len(ends)
-                ends.append(0)
+            ends = of.ends
+            if it.follows:
+                lane, begun = of.latest, ends[of.latest]
+            else:
+                lane, begun = ends.index(min(ends)) if len(ends) > 1 else 0, it.time
+                if not ends or ends[lane] >= begun + slack:
+                    lane = len(ends)
+                    ends.append(0)
             # How long a request took that has no latency is not known, and a guess opens no lane.
-            ends[lane] = begun + (0 if it.took is None else took(it))
-            latest[it.client] = lane
+            ends[lane] = begun + (it.took or 0)
+            of.latest = lane
         else:
-            lane = count[it.client] % (depth or 1)
-            count[it.client] += 1
-        name = names.get((it.client, lane))
-        if name is None:
-            name = names[it.client, lane] = f"{it.client}.{lane + 1}"
-        it.client = name
+            lane = of.latest
+            of.latest = (lane + 1) % (depth or 1)
+        if lane == len(of.names):
+            of.names.append(f"{it.client}.{lane + 1}")
+        it.client = of.names[lane]
+
+
+class Lanes:
+    """The lanes of a client: when the last request of each ends, their names, and the lane of the last request or the next one."""
+
+    def __init__(self) -> None:
+        self.ends: list[int] = []
+        self.names: list[str] = []
+        self.latest = 0
+
+
+# How long a request takes, in nanoseconds.
+Took = Callable[[Request], int]
 
 
 def loop_of(asked: Namespace, kind: str | None, requests: list[Request], took: Took) -> "Loop | None":
@@ -77,7 +85,7 @@ def loop_of(asked: Namespace, kind: str | None, requests: list[Request], took: T
         for it in requests:
             it.client = NONE
     elif asked.has_lanes:
-        deal(requests, took, asked.depth, asked.slack)
+        deal(requests, asked.depth, asked.slack)
     return Loop(kind is not None and asked.loop != "open", took, asked.tick)
 
 
@@ -92,34 +100,43 @@ class Loop:
         # How many think times were cut, and the longest one, in nanoseconds.
         self.cut = 0
         self.longest = 0
-        # The time at which each client's last request began, and the one at which it ended; and the clients that have a message.
-        self.last: dict[str, tuple[int, int]] = {}
-        self.begun: set[str] = set()
 
-    def of(self, it: Request, release: int) -> tuple[int, int]:
-        """The release and the think time of the next request. What one call asks for at once is done in turn."""
-        if not self.is_closed:
-            return release, 0
-        client, time = it.client, it.time
-        before = self.last.get(client)
-        took = it.took if it.took is not None else self.took(it)
-        if before is None or client not in self.begun:
-            if isinstance(it, Data) or it.ops:
-                self.begun.add(client)
-            self.last[client] = time, (before[1] if before and before[0] == time else time) + took
-            return release, 0
-        began, end = before
-        self.last[client] = time, (end if began == time else time) + took
-        if time <= end:
-            return 0, 0
-        think = time - end
-        if think > self.longest:
-            self.longest = think
-        ticks = think // self.tick
+    def times(self, requests: list[Request], start: int) -> Iterator[tuple[int, int]]:
+        """The release and the think time of each request, the first of which came at this time."""
+        return self.closed(requests, start) if self.is_closed else (((it.time - start) // self.tick, 0) for it in requests)
+
+    def closed(self, requests: list[Request], start: int) -> Iterator[tuple[int, int]]:
+        """The same in a closed loop. What one call asks for at once is done in turn."""
+        tick = self.tick
+        # The time at which each client's last request began, and the one at which it ended; and the clients that have no message yet.
+        last: dict[str, tuple[int, int]] = {}
+        waiting: set[str] = set()
+        for it in requests:
+            client, time = it.client, it.time
+            took = it.took if it.took is not None else self.took(it)
+            before = last.get(client)
+            if before is None:
+                waiting.add(client)
+                last[client] = time, time + took
+            else:
+                began, end = before
+                last[client] = time, (end if began == time else time) + took
+            if waiting and client in waiting:
+                if isinstance(it, Data) or it.ops:
+                    waiting.remove(client)
+                yield (time - start) // tick, 0
+            else:
+                yield 0, self.think(time - end) if time > end else 0
+
+    def think(self, pause: int) -> int:
+        """The think time of a pause of so many nanoseconds."""
+        if pause > self.longest:
+            self.longest = pause
+        ticks = pause // self.tick
         if ticks > limits.THINK:
             self.cut += 1
-            return 0, limits.THINK
-        return 0, ticks
+            return limits.THINK
+        return ticks
 
     def warn(self) -> None:
         if self.cut:

@@ -6,24 +6,45 @@ from argparse import Namespace
 from collections.abc import Iterator, Sequence
 
 from . import clients, limits
-from .logs import shown, tell
-from .traces import LINES, NAME, Opened, cells, opened, parts_of, record_of
+from .logs import rows_of, shown, tell
+from .traces import LINES, NAME, PART, Opened, cells, opened, record_of
 
 # A line whose message has one operation, on a cell or a range, as most have, by the version of the trace: its fields, and the space and
 # the first and the last cell.
-CELL = r"(?:(?P<read>read)|set|add) ([^ :;]+):([0-9]{1,18})(?:-([0-9]{1,18}))?(?(read)| [^ ;]*)"
-ONES = {version: re.compile(f"^{line.pattern.removesuffix(NAME)}{CELL}$", re.M) for version, line in LINES.items()}
+CELL = r"(?:(?P<read>read)|set|add) ([^ :;,\"\r\n]+):([0-9]{1,18})(?:-([0-9]{1,18}))?(?(read)| [^ ;,\"\r\n]*)"
+ONES = {version: re.compile(line.pattern.removesuffix(f"{NAME}$") + f"{CELL}$", re.M) for version, line in LINES.items()}
 
 
-def union(ranges: dict[int, int]) -> int:
-    """How many numbers are in these ranges, each of a first and a last one."""
-    count, end = 0, -1
-    for first in sorted(ranges):
-        last = ranges[first]
-        if last > end:
-            count += last - (end if end >= first else first - 1)
-            end = last
-    return count
+# The cells of a space that have a byte each, where they are touched.
+MOST_NEAR = 1 << 24
+
+
+class Touched:
+    """The cells of a space that are touched: a byte for each of the first ones, and the ranges of the others: of those with the same first
+    cell the longest."""
+
+    def __init__(self) -> None:
+        self.near = bytearray()
+        self.far: dict[int, int] = {}
+
+    def add(self, first: int, last: int) -> None:
+        """Takes the cells from one to another."""
+        near, end = self.near, min(last + 1, MOST_NEAR)
+        if end > len(near):
+            near.extend(bytes(min(max(end, 2 * len(near)), MOST_NEAR) - len(near)))
+        if first < end:
+            near[first:end] = b"\1" * (end - first)
+        if last >= MOST_NEAR:
+            begun = max(first, MOST_NEAR)
+            self.far[begun] = max(last, self.far.get(begun, -1))
+
+    def count(self) -> int:
+        count, end = self.near.count(1), -1
+        for first, last in sorted(self.far.items()):
+            if last > end:
+                count += last - (end if end >= first else first - 1)
+                end = last
+        return count
 
 
 def ratio(number: int, by: int) -> str:
@@ -41,10 +62,18 @@ class Tally:
     """How many messages there are of each name or client, and what they cost."""
 
     def __init__(self) -> None:
-        self.found: dict[str, list[int]] = collections.defaultdict(lambda: [0, 0])
+        self.counts: collections.Counter[str] = collections.Counter()
+        self.costs: dict[str, int] = {}
+
+    def add(self, names: Sequence[str], costs: Sequence[int]) -> None:
+        """Takes messages of these names."""
+        self.counts.update(names)
+        found = self.costs
+        for name, cost in zip(names, costs, strict=True):
+            found[name] = found.get(name, 0) + cost
 
     def lines(self) -> Iterator[str]:
-        return (f"{key},{count},{cost}" for key, (count, cost) in self.found.items())
+        return (f"{name},{count},{self.costs[name]}" for name, count in self.counts.items())
 
 
 class Counts:
@@ -56,8 +85,7 @@ class Counts:
         self.most_ops = limits.OPS if version == 3 else limits.EARLIER_OPS
         self.operations = self.last = self.think = 0
         self.over_ops = self.over_cost = self.over_release = self.over_think = 0
-        # The ranges of each space that are touched: of those with the same first cell the longest.
-        self.touched: dict[str, dict[int, int]] = collections.defaultdict(dict)
+        self.touched: dict[str, Touched] = collections.defaultdict(Touched)
         self.names = Tally()
         self.clients = Tally()
         # When each client began, and its last message ended.
@@ -65,26 +93,22 @@ class Counts:
         self.ends: dict[str, int] = {}
 
     def add(self, found: Opened) -> None:
-        """Takes all messages, those of one operation without looking at its parts twice."""
+        """Takes all messages, those of one operation by columns."""
         if found.plain is None:
             for number, record in enumerate(found.records, 2):
                 self.message(number, record)
             return
         number = 2
-        for part in parts_of(found.plain):
-            rows = ONES[self.version].findall(part)
-            is_whole = len(rows) == part.count("\n") + (not part.endswith("\n"))
-            if is_whole and self.part(rows):
+        for _, rows, part in rows_of(found.plain, ONES[self.version], PART):
+            if rows and self.ones(list(zip(*rows, strict=True))):
                 number += len(rows)
                 continue
-            for line in part.split("\n"):
-                if line:
-                    self.message(number, record_of(self.called, self.version, number, line))
-                    number += 1
+            for line in filter(None, part.split("\n")):
+                self.message(number, record_of(self.called, self.version, number, line))
+                number += 1
 
-    def part(self, rows: list[tuple[str, ...]]) -> bool:
-        """Takes messages of one operation each, the columns at once. False where a range is none, and nothing is taken."""
-        columns = list(zip(*rows, strict=True))
+    def ones(self, columns: list[tuple[str, ...]]) -> bool:
+        """Takes messages of one operation each. False where a range is none, and nothing is taken."""
         firsts = list(map(int, columns[-2]))
         lasts = [int(last) if last else first for first, last in zip(firsts, columns[-1], strict=True)]
         counts = [last - first + 1 for first, last in zip(firsts, lasts, strict=True)]
@@ -92,79 +116,60 @@ class Counts:
             return False
         touched = self.touched
         for space, first, last in zip(columns[-3], firsts, lasts, strict=True):
-            found = touched[space]
-            if found.get(first, -1) < last:
-                found[first] = last
-        self.operations += sum(counts)
-        self.over_ops += sum(it > self.most_ops for it in counts) if max(counts) > self.most_ops else 0
-        costs = list(map(int, columns[1]))
-        self.over_cost += sum(not 1 <= it <= limits.COST for it in costs)
-        of_names = self.names.found
-        for name, cost in zip(columns[0], costs, strict=True):
-            entry = of_names[name]
-            entry[0] += 1
-            entry[1] += cost
-        if self.version == 3:
-            of_clients = self.clients.found
-            for client, cost, release, think in zip(columns[3], costs, map(int, columns[2]), map(int, columns[4]), strict=True):
-                entry = of_clients[client]
-                entry[0] += 1
-                entry[1] += cost
-                self.of_client(client, cost, release, think)
-        elif self.version == 2:
-            releases = list(map(int, columns[2]))
-            self.over_release += sum(it > limits.RELEASE for it in releases)
-            self.last = max(self.last, *releases)
+            near = touched[space].near
+            if last < len(near):
+                near[first : last + 1] = b"\1" * (last - first + 1)
+            else:
+                touched[space].add(first, last)
+        self.of_messages(columns, counts)
         return True
 
     def message(self, number: int, record: Sequence[str]) -> None:
         """Takes a message of any operations."""
         found = cells(self.called, number, record[-1], self.version)
         for space, first, last in found:
-            self.touched[space][first] = max(last, self.touched[space].get(first, -1))
-        self.of_message(record, sum(last - first + 1 for _, first, last in found))
+            self.touched[space].add(first, last)
+        self.of_messages([(it,) for it in record], [sum(last - first + 1 for _, first, last in found)])
 
-    def of_message(self, fields: Sequence[str], count: int) -> None:
-        """Takes the name, the cost and the times of a message of so many operations."""
-        cost = int(fields[1])
-        self.operations += count
-        if count > self.most_ops:
-            self.over_ops += 1
-        if not 1 <= cost <= limits.COST:
-            self.over_cost += 1
-        entry = self.names.found[fields[0]]
-        entry[0] += 1
-        entry[1] += cost
-        if self.version == 3:
-            entry = self.clients.found[fields[3]]
-            entry[0] += 1
-            entry[1] += cost
-            release, think = fields[2], fields[4]
-            self.of_client(fields[3], cost, int(release) if release != "0" else 0, int(think) if think != "0" else 0)
-        elif self.version == 2:
-            at = int(fields[2])
-            self.over_release += at > limits.RELEASE
-            self.last = max(self.last, at)
+    def of_messages(self, columns: Sequence[Sequence[str]], counts: list[int]) -> None:
+        """Takes the names, the costs and the times of messages of so many operations."""
+        costs = list(map(int, columns[1]))
+        self.operations += sum(counts)
+        self.over_ops += above(counts, self.most_ops)
+        self.over_cost += above(costs, limits.COST) + costs.count(0)
+        self.names.add(columns[0], costs)
+        if self.version == 1:
+            return
+        releases = list(map(int, columns[2]))
+        self.over_release += above(releases, limits.RELEASE)
+        if self.version == 2:
+            self.last = max(self.last, *releases)
+            return
+        thinks = list(map(int, columns[4]))
+        self.over_think += above(thinks, limits.THINK)
+        self.think += sum(thinks)
+        self.clients.add(columns[3], costs)
+        self.of_clients(columns[3], costs, releases, thinks)
 
-    def of_client(self, client: str, cost: int, release: int, think: int) -> None:
-        if release > limits.RELEASE:
-            self.over_release += 1
-        if think > limits.THINK:
-            self.over_think += 1
-        self.think += think
-        end = self.ends.get(client)
-        if client == clients.NONE or end is None:
-            start = max(release, think)
-            if client != clients.NONE:
-                self.begun[client] = start
-                self.ends[client] = start + cost
-        else:
-            start = end + think
+    def of_clients(self, names: Sequence[str], costs: list[int], releases: list[int], thinks: list[int]) -> None:
+        """Takes when the messages of these clients start."""
+        ends, last = self.ends, self.last
+        for client, cost, release, think in zip(names, costs, releases, thinks, strict=True):
+            start = ends.get(client, 0) + think
             if release > start:
                 start = release
-            self.ends[client] = start + cost
-        if start > self.last:
-            self.last = start
+            if start > last:
+                last = start
+            if client != clients.NONE:
+                if client not in ends:
+                    self.begun[client] = start
+                ends[client] = start + cost
+        self.last = last
+
+
+def above(numbers: list[int], most: int) -> int:
+    """How many of these numbers are greater."""
+    return sum(it > most for it in numbers) if max(numbers) > most else 0
 
 
 def stats(asked: Namespace) -> str:
@@ -173,9 +178,9 @@ def stats(asked: Namespace) -> str:
     version = trace.version
     found = Counts(shown(asked.trace), version)
     found.add(trace)
-    messages, cost = (sum(it[at] for it in found.names.found.values()) for at in (0, 1))
+    messages, cost = found.names.counts.total(), sum(found.names.costs.values())
     has_clients = bool(found.begun)
-    spaces = {space: union(ranges) for space, ranges in sorted(found.touched.items())}
+    spaces = {space: found.touched[space].count() for space in sorted(found.touched)}
     most = limits.MESSAGES if version == 3 else limits.EARLIER_MESSAGES
     lines = [
         f"messages,{messages}",

@@ -4,12 +4,14 @@ The times of version 3 are in microseconds, as fio 3.33 writes them; latencies a
 """
 
 import collections
+import itertools
 import os
 import re
 from argparse import Namespace
+from collections.abc import Iterator
 from fractions import Fraction
 
-from .logs import Data, File, Lines, Meta, Refusal, Request, is_number, read_lines, shown, stem_of
+from .logs import Data, File, Lines, Meta, Refusal, Request, Rows, is_number, lines_in, lines_of, read_plain, rows_of, shown, stem_of
 from .model import VOLUME, Found, Volume
 
 HEADER = re.compile(r"fio version ([23]) iolog")
@@ -21,21 +23,37 @@ FLUSHES = {"sync": "sync", "datasync": "sync", "sync_file_range": "sync"}
 
 
 # A line of either log in the form that most have.
-ACTION = re.compile(r"([0-9]{1,18}) (\S+) (read|write|trim) ([0-9]{1,18}) ([0-9]{1,18})", re.ASCII)
-LATENCY = re.compile(r"[0-9]{1,18}, ([0-9]{1,18}), ([0-9]{1,18}, [0-9]{1,18}, [0-9]{1,18}), [^,]*", re.ASCII)
+ACTION = re.compile(r"^([0-9]{1,18}) (\S+) (read|write|trim) ([0-9]{1,18}) ([0-9]{1,18})$", re.ASCII | re.M)
+LATENCY = re.compile(r"^[0-9]{1,18}, ([0-9]{1,18}), ([0-9]{1,18}, [0-9]{1,18}, [0-9]{1,18}), [^,\n]*$", re.ASCII | re.M)
+# The characters of a part of a log, whose lines are taken at once where all are of that form.
+PART = 1 << 12
+
+
+def without_offset(key: str) -> str:
+    """The key of a latency in a log that has no offsets."""
+    return key.rpartition(" ")[0] + " -"
 
 
 class Latencies:
     """The latencies of a log, by direction and size, and by offset where the log has it (as `0, 4096, 8192`), in the order of the log."""
 
     def __init__(self, name: str) -> None:
-        lines = read_lines(name)
-        self.lines = Lines(name, len(lines))
-        # The lines that are not read yet, from a place on: mostly the next one is that of the next request.
-        self.unread = lines
-        self.place = 0
+        text = read_plain(name)
+        self.lines = Lines(name, lines_in(text))
+        # Those that are not read yet: mostly the next one is that of the next request.
+        self.unread: Iterator[tuple[str, ...]] = self.read(text)
         # Those that were read, and which no request had yet, the first one first.
         self.waiting: dict[str, collections.deque[str]] = {}
+
+    def read(self, text: str) -> Iterator[tuple[str, ...]]:
+        """Each latency with its key."""
+        for first, rows, part in rows_of(text, LATENCY, PART):
+            yield from rows
+            for number, line in enumerate([] if rows else lines_of(part), first):
+                found = LATENCY.fullmatch(line)
+                read = found.groups() if found is not None else self.parsed(number, line)
+                if read is not None:
+                    yield read
 
     def parsed(self, number: int, line: str) -> tuple[str, str] | None:
         """The latency and the key of a line in another form than most have; None where it is not understood."""
@@ -46,30 +64,29 @@ class Latencies:
         # Time, latency, direction, size; then the offset (with log_offset=1), and the priority.
         return fields[1], f"{fields[2]}, {fields[3]}, {fields[4] if len(fields) >= 6 else '-'}"
 
-    def take(self, direction: str, offset: str, length: str) -> int | None:
-        """The latency of the next such request, in nanoseconds; None where there is none."""
-        key = f"{direction}, {length}, {offset}"
-        unread, match = self.unread, LATENCY.fullmatch
+    def take(self, keys: list[str]) -> list[int | None]:
+        """The latencies of the next such requests, in nanoseconds; None where there is none."""
+        if not self.waiting:
+            next_ones = list(itertools.islice(self.unread, len(keys)))
+            if [told for _, told in next_ones] == keys:
+                return [int(took) for took, _ in next_ones]
+            self.unread = itertools.chain(next_ones, self.unread)
+        return [self.take_one(key) for key in keys]
+
+    def take_one(self, key: str) -> int | None:
         if self.waiting:
-            found = self.waiting.get(key) or self.waiting.get(f"{direction}, {length}, -")
+            found = self.waiting.get(key) or self.waiting.get(without_offset(key))
             if found:
                 return int(found.popleft())
-        while self.place < len(unread):
-            line = unread[self.place]
-            self.place += 1
-            usual = match(line)
-            read = usual.groups() if usual is not None else self.parsed(self.place, line)
-            if read is None:
-                continue
-            took, told = read
-            if told == key or told == f"{direction}, {length}, -":
+        for took, told in self.unread:
+            if told == key or told == without_offset(key):
                 return int(took)
             self.waiting.setdefault(told, collections.deque()).append(took)
         return None
 
     def left(self) -> int:
         """How many latencies no request had. The rest of the log is read for that."""
-        self.take("", "", "")
+        self.take_one("")
         return sum(map(len, self.waiting.values()))
 
 
@@ -91,15 +108,16 @@ class Reader:
 
     def read(self, name: str, latencies: Latencies | None, start: int, client: str) -> None:
         """Adds the requests of a log whose job started so many nanoseconds after the others."""
-        lines = read_lines(name)
-        log = Lines(name, len(lines))
+        text = read_plain(name)
+        log = Lines(name, lines_in(text))
         has_times = True
-        if lines:
-            header = HEADER.fullmatch(lines[0].strip())
+        if text:
+            first, _, actions = text.partition("\n")
+            header = HEADER.fullmatch(first.strip())
             if header is None:
                 raise Refusal(3, f"{log.name}: no iolog: its first line is not `fio version 2 iolog` or `.. 3 ..`")
             has_times = header[1] == "3"
-            self.actions(log, lines, has_times, latencies, start, client)
+            self.actions(log, actions, has_times, latencies, start, client)
             log.without["headers"] = 1
         self.logs.append(log)
         if not has_times:
@@ -108,69 +126,85 @@ class Reader:
             latencies.lines.without["latencies of no request"] += latencies.left()
             self.beside.append(latencies.lines)
 
-    def actions(self, log: Lines, lines: list[str], has_times: bool, latencies: Latencies | None, start: int, client: str) -> None:
-        now, match = start, ACTION.fullmatch
-        for number, line in enumerate(lines[1:], 2):
-            usual = match(line) if has_times else None
-            if usual is not None:
-                time, name, action, offset, length = usual.groups()
-                now = start + int(time) * 1000
-                if log.latest is not None and now < log.latest:
-                    log.at(now)
+    def actions(self, log: Lines, text: str, has_times: bool, latencies: Latencies | None, start: int, client: str) -> None:
+        """Adds what stands behind the header."""
+        now = start
+        of_version_2: list[tuple[int, Rows, str]] = [(2, [], text)]
+        for first, rows, part in rows_of(text, ACTION, PART, 2) if has_times else of_version_2:
+            self.rows(log, rows, latencies, start, client)
+            for number, line in enumerate([] if rows else lines_of(part), first):
+                usual = ACTION.fullmatch(line) if has_times else None
+                if usual is not None:
+                    self.rows(log, [usual.groups()], latencies, start, client)
                 else:
-                    log.latest = now
-                self.data(log, now, name, action, offset, length, latencies, client)
-                continue
-            if HEADER.search(line):
-                log.notes["headers of other jobs, whose lines may be mixed with those before (each job has a log of its own)"] += 1
-                if HEADER.fullmatch(line.strip()):
-                    continue
-            words = line.split()
-            if has_times:
-                if not words or not is_number(words[0]):
-                    log.not_understood(number, line)
-                    continue
-                now = start + int(words.pop(0)) * 1000
+                    now = self.action(log, number, line, has_times, now, latencies, start, client)
+
+    def rows(self, log: Lines, rows: Rows, latencies: Latencies | None, start: int, client: str) -> None:
+        """Adds the reads, writes and trims of these times, names, actions, offsets and lengths."""
+        known, add, sizes = self.known, self.requests.append, {it: int(it) for it in {row[4] for row in rows}}
+        tooks: Iterator[int | None] = itertools.repeat(None)
+        if latencies:
+            tooks = iter(latencies.take([f"{DIRECTIONS[it[2]]}, {it[4]}, {it[3]}" for it in rows if sizes[it[4]]]))
+        for time, name, action, offset, length in rows:
+            now, begin, size = start + int(time) * 1000, int(offset), sizes[length]
+            if log.latest is not None and now < log.latest:
                 log.at(now)
-            if len(words) == 4 and is_number(words[2]) and is_number(words[3]):
-                if words[1] == "wait" and not has_times:
-                    now += int(words[2]) * 1000
-                    log.without["waits"] += 1
-                elif not self.request(log, now, words, latencies, client):
-                    log.not_understood(number, line)
-            elif len(words) == 2 and words[1] in ("add", "close"):
-                self.file(words[0])
-                log.without[{"add": "names of files", "close": "closes of files"}[words[1]]] += 1
-            elif len(words) == 2 and words[1] == "open":
-                self.requests.append(Meta(now, None, "open", [("read", VOLUME, "inode", self.file(words[0]).inode)], (), client))
             else:
+                log.latest = now
+            file = known.get(name) or self.file(name)
+            if size == 0:
+                log.without["requests for no bytes"] += 1
+                continue
+            if begin + size > file.end:
+                file.end = begin + size
+            add(Data(now, next(tooks), action, KINDS[action], file, begin, size, None, client))
+
+    def action(
+        self, log: Lines, number: int, line: str, has_times: bool, now: int, latencies: Latencies | None, start: int, client: str
+    ) -> int:
+        """Takes a line of another form, or of version 2. Answers the time that it is at, for what comes behind it."""
+        if HEADER.search(line):
+            log.notes["headers of other jobs, whose lines may be mixed with those before (each job has a log of its own)"] += 1
+            if HEADER.fullmatch(line.strip()):
+                return now
+        words, time = line.split(), "0"
+        if has_times:
+            if not words or not is_number(words[0]):
                 log.not_understood(number, line)
+                return now
+            now, time = start, words.pop(0)
+        is_of_bytes = len(words) == 4 and is_number(words[2]) and is_number(words[3])
+        if is_of_bytes and words[1] in KINDS:
+            self.rows(log, [(time, *words)], latencies, now, client)
+            return now + int(time) * 1000
+        now += int(time) * 1000
+        if has_times:
+            log.at(now)
+        if is_of_bytes and words[1] == "wait" and not has_times:
+            now += int(words[2]) * 1000
+            log.without["waits"] += 1
+        elif not self.other(log, now, words, is_of_bytes, client):
+            log.not_understood(number, line)
+        return now
 
-    def request(self, log: Lines, now: int, words: list[str], latencies: Latencies | None, client: str) -> bool:
-        """Adds what an action with an offset and a length asks for. False where it is no such action."""
-        name, action, offset, length = words
-        if action in FLUSHES:
-            self.requests.append(Meta(now, None, FLUSHES[action], [("read", VOLUME, "inode", self.file(name).inode)], (), client))
-            return True
-        if action not in KINDS:
-            self.file(name)
+    def other(self, log: Lines, now: int, words: list[str], is_of_bytes: bool, client: str) -> bool:
+        """Takes an action that moves no data. False where it is none."""
+        if len(words) < 2:
             return False
-        self.data(log, now, name, action, offset, length, latencies, client)
+        name, action, *_ = words
+        if is_of_bytes:
+            file = self.file(name)
+            if action in FLUSHES:
+                self.requests.append(Meta(now, None, FLUSHES[action], [("read", VOLUME, "inode", file.inode)], (), client))
+            return action in FLUSHES
+        if len(words) != 2 or action not in ("add", "close", "open"):
+            return False
+        file = self.file(name)
+        if action == "open":
+            self.requests.append(Meta(now, None, "open", [("read", VOLUME, "inode", file.inode)], (), client))
+        else:
+            log.without[{"add": "names of files", "close": "closes of files"}[action]] += 1
         return True
-
-    def data(
-        self, log: Lines, now: int, name: str, action: str, offset: str, length: str, latencies: Latencies | None, client: str
-    ) -> None:
-        """Adds a read, a write or a trim."""
-        file = self.known.get(name) or self.file(name)
-        start, size = int(offset), int(length)
-        if size == 0:
-            log.without["requests for no bytes"] += 1
-            return
-        took = latencies.take(DIRECTIONS[action], offset, length) if latencies else None
-        if start + size > file.end:
-            file.end = start + size
-        self.requests.append(Data(now, took, action, KINDS[action], file, start, size, None, client))
 
 
 def starts_of(asked: Namespace) -> dict[str, int]:

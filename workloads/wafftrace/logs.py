@@ -117,10 +117,49 @@ def is_number(word: str) -> bool:
 
 def read_lines(name: str) -> list[str]:
     """The lines of a file, which end with LF or CR LF."""
-    lines = [line.removesuffix("\r") for line in read_text(name).split("\n")]
+    return lines_of(read_text(name))
+
+
+def lines_of(text: str) -> list[str]:
+    """The lines of a text, which end with LF or CR LF."""
+    lines = [line.removesuffix("\r") for line in text.split("\n")]
     if lines[-1] == "":
         lines.pop()
     return lines
+
+
+def read_plain(name: str) -> str:
+    """The text of a file, each line of which ends with LF alone."""
+    text = read_text(name)
+    return text if "\r" not in text else "".join(line + "\n" for line in lines_of(text))
+
+
+def lines_in(text: str) -> int:
+    """How many lines a text has, whether its last one ends or not."""
+    return text.count("\n") + (text != "" and not text.endswith("\n"))
+
+
+def parts_of(text: str, size: int) -> Iterator[str]:
+    """A long text in parts of whole lines, of about so many characters."""
+    begun = 0
+    while begun < len(text):
+        end = text.find("\n", begun + size) + 1 or len(text)
+        yield text[begun:end]
+        begun = end
+
+
+# The fields of lines of one form.
+Rows = list[tuple[str, ...]]
+
+
+def rows_of(text: str, form: re.Pattern[str], size: int, number: int = 1) -> Iterator[tuple[int, Rows, str]]:
+    """A long text in parts, its first line of this number: the number of a part's first line, the fields of its lines where all are of
+    this form, which matches whole lines, or none, and the part."""
+    for part in parts_of(text, size):
+        count = lines_in(part)
+        rows: Rows = form.findall(part)
+        yield number, rows if len(rows) == count else [], part
+        number += count
 
 
 def shown(text: str, most: int = SHOWN_CHARACTERS) -> str:

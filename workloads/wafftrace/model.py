@@ -279,15 +279,18 @@ class Shape:
         moves data is one message."""
         if cell is None:
             self.lay(max(self.store.block(moved), power_from(upwards(self.longest, self.most))))
-            while any(self.cells_of(it) > self.most for it in moved) or max(self.spaces.values()) > limits.LARGE_SIZE:
+            while self.has_parts(moved) or max(self.spaces.values()) > limits.LARGE_SIZE:
                 self.lay(self.cell * 2)
         elif max(self.spaces.values()) > limits.LARGE_SIZE:
             raise Refusal(2, f"--cell {cell} makes {self.count} cells, and a space has at most {limits.LARGE_SIZE}")
 
-    def cells_of(self, it: Data) -> int:
-        """How many cells the bytes of a request are in."""
-        at = it.place.base + it.offset
-        return (at + it.length - 1) // self.cell - at // self.cell + 1
+    def has_parts(self, moved: list[Data]) -> bool:
+        """Whether a request is more than one message. The longer ones alone can be in so many cells."""
+        cell, most = self.cell, self.most
+        if self.longest <= (most - 1) * cell:
+            return False
+        ends = ((it.place.base + it.offset, it.length) for it in moved if it.length > (most - 1) * cell)
+        return any((at + length - 1) // cell - at // cell >= most for at, length in ends)
 
 
 def shares(total: int, weights: list[int]) -> list[int]:
@@ -329,6 +332,7 @@ class Messages:
         self.most = shape.most
         self.options = options
         self.measured = costs.measured
+        self.tick = costs.tick
         self.costs = costs
         self.loop = loop
         self.lines = ["message,cost,release,client,think,ops" if loop else "message,cost,release,ops"]
@@ -337,7 +341,8 @@ class Messages:
         self.cut_costs = 0
         self.guessed: collections.Counter[str] = collections.Counter()
         self.number = 0
-        self.spaces: dict[File, str] = {}
+        # How the operations of reads and writes of a file begin.
+        self.heads: dict[str, dict[File, str]] = {"read": {}, "write": {}, "free": {}}
         # Whether requests take or give back blocks, and each write does.
         self.takes = store.has_map and options.blocks != "none"
         self.takes_all = self.takes and options.blocks == "all"
@@ -345,22 +350,56 @@ class Messages:
     def add(self, requests: list[Request]) -> None:
         requests.sort(key=operator.attrgetter("time"))
         start = requests[0].time if requests else 0
-        tick, loop, measured = self.options.tick, self.loop, self.measured
-        for request in requests:
-            self.release = (request.time - start) // tick
-            if loop:
-                self.client = request.client
-                self.release, self.think = loop.of(request, self.release)
-            if isinstance(request, Data):
-                self.number += 1
-                if measured and request.took is None:
-                    self.guessed[request.name] += 1
-                self.data(request)
-            elif request.ops:
-                self.number += 1
-                if measured and request.took is None:
-                    self.guessed[request.name] += 1
-                self.meta(request)
+        times = self.loop.times(requests, start) if self.loop else (((it.time - start) // self.tick, 0) for it in requests)
+        if self.measured:
+            guessed = [it for it in requests if it.took is None]
+            self.guessed.update(it.name for it in guessed if isinstance(it, Data) or it.ops)
+        heads, costs, tick, cell, most, add = self.heads, self.costs.of, self.tick, self.cell, self.most, self.lines.append
+        measured, takes = self.measured, self.takes
+        # A read or write without blocks is one line, and so are most requests.
+        is_one = {"read": self.loop is not None, "write": self.loop is not None and not self.takes_all, "free": False}
+        operations = latest = 0
+        for it, (release, think) in zip(requests, times, strict=True):
+            if not isinstance(it, Data):
+                self.meta(it, release, think)
+                continue
+            self.number += 1
+            file, kind, took = it.place, it.kind, it.took if measured else None
+            head = heads[kind].get(file) or self.head(kind, file)
+            at = file.base + it.offset
+            first, last = at // cell, (at + it.length - 1) // cell
+            cost = costs(it.name, it.length) if took is None else -(-took // tick) or 1
+            if not is_one[kind] or last - first >= most or cost > limits.COST or it.fresh is not None and takes:
+                self.data(it, release, think, cost, head, first, last)
+                continue
+            operations += last - first + 1
+            if release > latest:
+                latest = release
+            cells = first if first == last else f"{first}-{last}"
+            if kind == "read":
+                add(f"{it.name},{cost},{release},{it.client},{think},{head}{cells}")
+            else:
+                add(f"{it.name},{cost},{release},{it.client},{think},{head}{cells} {self.number}")
+        self.count += operations
+        self.latest = max(self.latest, latest)
+
+    def head(self, kind: str, file: File) -> str:
+        """How an operation on the data of a file begins."""
+        found = self.heads[kind][file] = f"{'read' if kind == 'read' else 'set'} {self.store.data_space(file)}:"
+        return found
+
+    def data(self, it: Data, release: int, think: int, cost: int, head: str, first: int, last: int) -> None:
+        """The messages of a request for these cells."""
+        self.release, self.think, self.client = release, think, it.client
+        blocks = self.taken(it, first, last) if self.takes else None
+        cost, after = self.blocks(cost, it.place.volume, [blocks]) if blocks else (cost, [])
+        runs = pieces(first, last, self.most)
+        parts = shares(cost, [end - begin + 1 for begin, end in runs])
+        tail = "" if it.kind == "read" else " 0" if it.kind == "free" else f" {self.number}"
+        for (begin, end), part in zip(runs, parts, strict=True):
+            self.line(it.name, part, self.operations(head, begin, end, tail))
+        for line in after:
+            self.line(*line)
 
     def line(self, name: str, cost: int, ops: str) -> None:
         if cost > limits.COST:
@@ -376,40 +415,12 @@ class Messages:
         self.release = 0 if self.loop.is_closed else self.release
         self.think = 0
 
-    def operations(self, head: str, space: str, first: int, last: int, tail: str) -> str:
+    def operations(self, head: str, first: int, last: int, tail: str) -> str:
         """An operation on each of these cells; a trace with clients has it once, with their range."""
         self.count += last - first + 1
         if self.loop is None:
-            return ";".join([f"{head}{space}:{n}{tail}" for n in range(first, last + 1)])
-        return f"{head}{space}:{first}{tail}" if first == last else f"{head}{space}:{first}-{last}{tail}"
-
-    def data(self, it: Data) -> None:
-        file = it.place
-        space = self.spaces.get(file)
-        if space is None:
-            space = self.spaces[file] = self.store.data_space(file)
-        at = file.base + it.offset
-        first, last = at // self.cell, (at + it.length - 1) // self.cell
-        cost = self.costs.of(it.name, it.took, it.length)
-        head, tail = "read " if it.kind == "read" else "set ", "" if it.kind == "read" else " 0" if it.kind == "free" else f" {self.number}"
-        blocks = self.taken(it, first, last) if self.takes and (it.fresh is not None or it.kind == "free" or self.takes_all) else None
-        if blocks is None and last - first < self.most:
-            if self.loop is None or cost > limits.COST:
-                self.line(it.name, cost, self.operations(head, space, first, last, tail))
-                return
-            # The usual one, without a call for each of its parts.
-            self.count += last - first + 1
-            self.latest = max(self.latest, self.release)
-            cells = f"{first}{tail}" if first == last else f"{first}-{last}{tail}"
-            self.lines.append(f"{it.name},{cost},{self.release},{self.client},{self.think},{head}{space}:{cells}")
-            return
-        cost, after = self.blocks(cost, file.volume, [blocks]) if blocks else (cost, [])
-        runs = pieces(first, last, self.most)
-        parts = shares(cost, [end - begin + 1 for begin, end in runs])
-        for (begin, end), part in zip(runs, parts, strict=True):
-            self.line(it.name, part, self.operations(head, space, begin, end, tail))
-        for line in after:
-            self.line(*line)
+            return ";".join([f"{head}{n}{tail}" for n in range(first, last + 1)])
+        return f"{head}{first}{tail}" if first == last else f"{head}{first}-{last}{tail}"
 
     def taken(self, it: Data, first: int, last: int) -> tuple[str, int, int] | None:
         """The blocks that a request takes or gives back, as `blocks` wants them; None where it does not."""
@@ -438,13 +449,19 @@ class Messages:
         runs = [(name, *it) for name, first, last in wanted for it in pieces(first, last, self.most)]
         parts = shares(share, [end - begin + 1 for _, begin, end in runs])
         lines = [
-            (name, part, self.operations("add ", volume + ".map", begin, end, " 1"))
+            (name, part, self.operations(f"add {volume}.map:", begin, end, " 1"))
             for (name, begin, end), part in zip(runs, parts, strict=True)
         ]
         return max(1, cost - share), lines
 
-    def meta(self, it: Meta) -> None:
-        cost = self.costs.of(it.name, it.took, 0)
+    def meta(self, it: Meta, release: int, think: int) -> None:
+        """The messages of a request that moves no data; one that does nothing has none."""
+        if not it.ops:
+            return
+        self.number += 1
+        self.release, self.think, self.client = release, think, it.client
+        took = it.took if self.measured else None
+        cost = self.costs.of(it.name, 0) if took is None else -(-took // self.tick) or 1
         after: list[Line] = []
         if it.blocks and self.options.blocks != "none":
             runs = []
@@ -506,7 +523,7 @@ def warn(messages: Messages, shape: Shape, logs: list[Lines]) -> None:
     if messages.guessed:
         names = ", ".join(f"{name} {times}" for name, times in sorted(messages.guessed.items()))
         tell(f"requests without a latency, which cost what their size says: {messages.guessed.total()} ({names})")
-    if advice := messages.costs.advice():
+    if advice := messages.costs.advice(messages.number):
         tell(advice)
     if messages.cut_costs:
         tell(f"costs above {limits.COST} ticks, which were cut to that: {messages.cut_costs} (a larger --tick keeps them)")

@@ -79,26 +79,23 @@ class Costs:
         self.prices = prices
         self.measured = measured
         self.tick = tick
-        # How many costs there are; of those by price how many are less than a tick, and the least one.
-        self.count = 0
+        # Of the costs by price how many are less than a tick, and the least one.
         self.small = 0
         self.least = 0
 
-    def of(self, name: str, took: int | None, length: int) -> int:
-        self.count += 1
-        if took is not None and self.measured:
-            return -(-took // self.tick) or 1
+    def of(self, name: str, length: int) -> int:
+        """The cost by price."""
         price = self.prices.of(name, length)
         self.small += price < self.tick
         if price and (not self.least or price < self.least):
             self.least = price
         return max(1, upwards(price, self.tick))
 
-    def advice(self) -> str | None:
-        """Which tick serves, where most prices are less than one."""
-        if 2 * self.small <= self.count or self.tick == 1:
+    def advice(self, count: int) -> str | None:
+        """Which tick serves, where of so many costs most are prices of less than one."""
+        if 2 * self.small <= count or self.tick == 1:
             return None
-        told = f"{self.small:,} of {self.count:,} requests take less than a tick, and each of them costs 1"
+        told = f"{self.small:,} of {count:,} requests take less than a tick, and each of them costs 1"
         return f"{told}: --tick {microseconds(rounded_down(self.least // FEW_TICKS))} tells them apart"
 
 

@@ -17,6 +17,8 @@ FEW_LEAPS = 12
 # How many affinities of their own the spaces have in other trees from which it begins.
 START_COUNTS = (1, 2, 4)
 NONE_OWN = "all spaces: none of their own"
+# What stands before a change that takes affinities away, so that the plan after it may be longer.
+FEWER = "fewer: "
 # For how many affinities a curve has the best tree.
 CAPS = (4, 8, 12, 16, 24, 32, 48, 64)
 
@@ -64,7 +66,7 @@ class Search:
         that has too many as well."""
         self.steps += self.planned([("-", Deal.of(tree), tree)])
         if self.steps[0].count() > self.most:
-            self.steps += self.planned(self.least())
+            self.steps += [replace(it, what=FEWER + it.what) for it in self.planned(self.least())]
         return self.steps[-1].count() <= self.most
 
     def least(self) -> list[Made]:
@@ -146,7 +148,7 @@ class Search:
     def lessen(self) -> None:
         """Takes away what is not worth its price, one after another."""
         while made := self.changed(self.steps[-1], self.steps[-1].deal.fewer(self.spaces), self.is_worth):
-            self.note(made)
+            self.note(replace(made, what=FEWER + made.what))
 
     def climb(self) -> None:
         """Searches with each cap for the tree of the best figures, whatever its affinities' price: `best` has what is found."""

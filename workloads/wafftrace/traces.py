@@ -12,7 +12,7 @@ from dataclasses import dataclass
 from fractions import Fraction
 
 from . import clients, limits
-from .logs import Refusal, is_number, read_text, shown, tell
+from .logs import Refusal, is_number, read_text, rows_of, shown, tell
 
 # How many messages the windows of a trace may have in all.
 MOST_IN_WINDOWS = 20000000
@@ -84,19 +84,12 @@ def header_of(version: int) -> str:
 NAME = r'([^,"\r\n]*)'
 NUMBER = r"([0-9]{1,18})"
 LINES = {
-    1: re.compile(f"{NAME},{NUMBER},{NAME}"),
-    2: re.compile(f"{NAME},{NUMBER},{NUMBER},{NAME}"),
-    3: re.compile(f"{NAME},{NUMBER},{NUMBER},{NAME},{NUMBER},{NAME}"),
+    1: re.compile(f"^{NAME},{NUMBER},{NAME}$", re.M),
+    2: re.compile(f"^{NAME},{NUMBER},{NUMBER},{NAME}$", re.M),
+    3: re.compile(f"^{NAME},{NUMBER},{NUMBER},{NAME},{NUMBER},{NAME}$", re.M),
 }
-ROWS = {version: re.compile(f"^{it.pattern}$", re.M) for version, it in LINES.items()}
 # The characters of a part of a long text.
-PART = 1 << 20
-# Of a line what stays without releases and think times.
-AT_ONCE = {
-    1: (re.compile(f"^({NAME},{NUMBER},)(?=[^,\n]*$)", re.M), r"\1"),
-    2: (re.compile(f"^({NAME},{NUMBER},){NUMBER},(?=[^,\n]*$)", re.M), r"\1"),
-    3: (re.compile(f"^({NAME},{NUMBER},){NUMBER},{NAME},{NUMBER},(?=[^,\n]*$)", re.M), r"\g<1>0,\5,0,"),
-}
+PART = 1 << 14
 # The fields of a record.
 Record = tuple[str, ...]
 
@@ -121,7 +114,11 @@ def records_of(name: str) -> tuple[int, Iterator[Record]]:
 def opened(name: str) -> Opened:
     text = read_text(name).removeprefix("\ufeff")
     called = "standard input" if name == "-" else shown(name)
-    records = (it for it in csv.reader(io.StringIO(text, newline=""), strict=True) if it)
+    is_plain = '"' not in text and "\r" not in text
+    # The header is the first line that is not empty.
+    first, _, plain = text.lstrip("\n").partition("\n") if is_plain else ("", "", "")
+    lines = [first] if is_plain else io.StringIO(text, newline="")
+    records = (it for it in csv.reader(lines, strict=True) if it)
     try:
         header: list[str] = next(records, [])
     except (csv.Error, ValueError) as fault:
@@ -129,23 +126,20 @@ def opened(name: str) -> Opened:
     version = HEADERS.get(",".join(header))
     if version is None:
         raise Refusal(3, f"{called}: its first record is no header of a trace: {' or '.join(HEADERS)}")
-    if '"' in text or "\r" in text:
-        return Opened(called, version, None, by_csv(called, version, records))
-    # The header is the first line that is not empty.
-    plain = text.lstrip("\n").partition("\n")[2]
-    return Opened(called, version, plain, by_lines(called, version, plain))
+    if is_plain:
+        return Opened(called, version, plain, by_lines(called, version, plain))
+    return Opened(called, version, None, by_csv(called, version, records))
 
 
 def by_lines(called: str, version: int, plain: str) -> Iterator[Record]:
     """The records of a text without quotes, a line each."""
-    number = 1
-    for part in parts_of(plain):
-        rows: list[Record] = ROWS[version].findall(part)
-        if len(rows) != part.count("\n") + (not part.endswith("\n")):
-            lines = [line for line in part.split("\n") if line]
-            rows = [record_of(called, version, at, line) for at, line in enumerate(lines, number + 1)]
-        number += len(rows)
+    number = 2
+    for _, rows, part in rows_of(plain, LINES[version], PART):
         yield from rows
+        number += len(rows)
+        for line in [] if rows else filter(None, part.split("\n")):
+            yield record_of(called, version, number, line)
+            number += 1
 
 
 def by_csv(called: str, version: int, records: Iterator[list[str]]) -> Iterator[Record]:
@@ -158,15 +152,6 @@ def by_csv(called: str, version: int, records: Iterator[list[str]]) -> Iterator[
             yield tuple(record)
     except (csv.Error, ValueError) as fault:
         raise Refusal(3, f"{called}: no CSV: {fault}") from None
-
-
-def parts_of(plain: str) -> Iterator[str]:
-    """A long text in parts of whole lines."""
-    begun = 0
-    while begun < len(plain):
-        end = plain.find("\n", begun + PART) + 1 or len(plain)
-        yield plain[begun:end]
-        begun = end
 
 
 def record_of(called: str, version: int, number: int, line: str) -> Record:
@@ -217,14 +202,8 @@ def pace(asked: Namespace) -> str:
     """The trace with its releases and think times divided by the speed, rounded down; or without them."""
     if asked.most and not asked.at_once:
         raise Refusal(2, "--most: wanted is --at-once beside it")
-    found = opened(asked.trace)
-    version, records = found.version, found.records
+    version, records = records_of(asked.trace)
     if asked.at_once:
-        if not asked.most and found.plain is not None and found.plain.endswith("\n") and not found.plain.startswith("\n"):
-            pattern, kept = AT_ONCE[version]
-            text, count = pattern.subn(kept, found.plain)
-            if count == found.plain.count("\n"):
-                return f"{header_of(3 if version == 3 else 1)}\n{text}"
         return "\n".join(few_at_once(version, list(records), asked.most) if asked.most else at_once(version, records)) + "\n"
     if version == 1:
         raise Refusal(3, f"{shown(asked.trace)}: it has no releases")

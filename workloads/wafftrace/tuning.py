@@ -151,7 +151,7 @@ def words() -> ArgumentParser:
         help="a trace that the tree is not made for (several times): the best tree is ranked for it at the end, beside the tree as it is",
     )
     words_of_search(top)
-    top.add_argument("--write", metavar="FILE", help="write the best tree to this file; a search writes it after each change")
+    top.add_argument("--write", metavar="FILE", help="write the best of the trees that are tried to this file; a search writes it after each change")
     words_of_calls(top)
     top.add_argument("--folder", metavar="DIR", help="where the trees that are tried are written (a folder of their own in it)")
     return top
@@ -170,7 +170,7 @@ def words_of_search(top: ArgumentParser) -> None:
     )
     top.add_argument(
         "--price", type=decimal(Fraction(0), 10, "price"), metavar="PERCENT",
-        help="what each affinity more has to gain (1); a search ends by taking away those that gain less",
+        help="what each affinity more has to gain (1); a search ends by taking away those that gain less: these changes begin with `fewer:`",
     )
     top.add_argument("--most", type=number(1, limits.AFFINITIES, "number"), metavar="N", help="how many affinities a tree of a search may have")
     top.add_argument(
@@ -227,18 +227,22 @@ def tried(asked: Namespace, tree: Tree, spaces: list[str], sources: list[Source]
     if len(tries) > MOST_TREES or max(stripes) > limits.OWNERS:
         raise Refusal(2, f"{len(tries)} trees of up to {max(stripes)} stripes: at most {MOST_TREES} of {limits.OWNERS}")
     trees = [with_stripes(tree, spaces, *it) for it in tries]
-    tell(f"{len(trees)} trees with other stripes or units for {', '.join(spaces)}")
+    tell(f"{many(len(trees), 'tree', 'trees')} with other stripes or units for {', '.join(spaces)}")
     first, *others = Ranker(asked, sources).rank([tree, *trees])
     by = asked.by or order_of(first, sources)
     tell_calm(first)
-    tell_best(asked, by)
     key = order(by, asked.over)
     found = sorted(zip(others, tries, trees, strict=True), key=lambda it: (key(it[0]), it[1]))
     lines = [columns(["stripes", "unit"], asked.workers, len(sources)), f"-,-,{cells(first)}"]
     lines += [f"{stripes},{unit},{cells(it)}" for it, (stripes, unit), _ in found]
+    row, (count, unit), best = found[0]
     if asked.write:
-        write_file(asked.write, found[0][2].text())
-    tell_held(asked, tree, found[0][2], key)
+        write_file(asked.write, best.text())
+    tell_held(asked, tree, best, key)
+    name = f"{many(count, 'stripe', 'stripes')} of unit {unit}"
+    if key(row) >= key(first):
+        name = f"the tree as it is; the best of the others is {name}"
+    tell(f"the best by {deciding(asked, by)} is {name}: {gain(asked, by, row, first)}{written(asked)}")
     return "\n".join(lines) + "\n"
 
 
@@ -250,10 +254,32 @@ def tell_calm(row: Row) -> None:
         tell(f"under the tree as it is {told}: another tree gains little (`waff-trace pace`)")
 
 
-def tell_best(asked: Namespace, by: str) -> None:
+def deciding(asked: Namespace, by: str) -> str:
+    """By what the best tree is the best, in words. Of several means it is by all latencies."""
     several = [f"{', '.join(map(str, asked.workers))} workers"] if len(asked.workers) > 1 else []
     several += [f"{1 + len(asked.also)} traces"] if asked.also else []
-    tell(f"the best is the tree of the least {by}" + (f" ({asked.over} for {' and '.join(several)})" if several else ""))
+    if not several:
+        return by
+    return f"{'latencies' if by == 'mean' else by} ({asked.over} for {' and '.join(several)})"
+
+
+def figure(asked: Namespace, by: str, row: Row) -> str:
+    """The figure of a tree that decides."""
+    return row[0].mean if by == "mean" and len(row) == 1 else str(order(by, asked.over)(row)[0])
+
+
+def gain(asked: Namespace, by: str, new: Row, old: Row) -> str:
+    """The figure of a tree that decides, beside that of the tree as it is."""
+    after, before = (order(by, asked.over)(row)[0] for row in (new, old))
+    if after == before:
+        return f"{figure(asked, by, new)}, as under the tree as it is"
+    percent = f"{100 * abs(after - before) / before:.1f} % {'less' if after < before else 'more'}"
+    return f"{figure(asked, by, new)}, {percent} than {figure(asked, by, old)} under the tree as it is"
+
+
+def written(asked: Namespace) -> str:
+    """Where the tree is that was told of."""
+    return f"; it is in {shown(asked.write)}" if asked.write else ""
 
 
 def tell_held(asked: Namespace, first: Tree, best: Tree, key: Order) -> None:
@@ -295,9 +321,8 @@ def searched(asked: Namespace, tree: Tree, spaces: list[str], sources: list[Sour
     whole = Ranker(asked, sources)
     (first,) = whole.rank([tree])
     by = asked.by or order_of(first, sources)
-    key = order(by, asked.over)
     tell_calm(first)
-    tell_best(asked, by)
+    tell(f"searching for the least {deciding(asked, by)}")
     floors = whole.floors(asked.hier) if by == "length" else []
     with tempfile.TemporaryDirectory(dir=asked.folder) as folder:
         windows = [it for source in sources for it in sampled(source, asked.sample, folder)]
@@ -311,9 +336,10 @@ def searched(asked: Namespace, tree: Tree, spaces: list[str], sources: list[Sour
     best = best_of(made, steps)
     if asked.write:
         write_file(asked.write, best.tree.text())
-    tell(f"{made.ranker.count} trees were planned")
-    tell_held(asked, tree, best.tree, key)
-    tell_floor(asked, best.row, floors)
+    tell(f"{many(made.ranker.count, 'tree was', 'trees were')} planned")
+    tell_held(asked, tree, best.tree, order(by, asked.over))
+    told_best = f"the best by {deciding(asked, by)} is {tree_found(asked, made, best, first, by)}"
+    tell(f"{told_best}{written(asked)}{floor(asked, best.row, floors)}")
     if asked.curve:
         return curve_text(asked, curve, floors)
     lines = [columns(["change"], asked.workers, len(sources)), *(f"{it.what},{cells(it.row)}" for it in steps)]
@@ -375,11 +401,25 @@ def total(asked: Namespace, lengths: list[int]) -> int:
     return max(lengths) if asked.over == "worst" else sum(lengths)
 
 
-def tell_floor(asked: Namespace, row: Row, floors: list[int]) -> None:
-    """Tells how long the plan is under this tree, and what no tree passes."""
-    if floors:
-        least, length = total(asked, floors), total(asked, [it.length for it in row])
-        tell(f"no tree has less than {least}; this one has {length}" if least < length else "no tree is better")
+def tree_found(asked: Namespace, made: Search, best: Found, first: Row, by: str) -> str:
+    """The best tree of a search, by its changes, and the figure that decides beside that of the tree as it is."""
+    changes = next(number for number, it in enumerate(made.steps) if it.tree is best.tree)
+    if changes == 0:
+        return f"the tree as it is: {figure(asked, by, first)}"
+    name = f"the tree after {many(changes, 'change', 'changes')}, of {many(best.count(), 'affinity', 'affinities')}"
+    return f"{name}: {gain(asked, by, best.row, first)}"
+
+
+def many(count: int, one: str, several: str) -> str:
+    return f"{count} {one if count == 1 else several}"
+
+
+def floor(asked: Namespace, row: Row, floors: list[int]) -> str:
+    """What no tree passes, beside a tree whose plans have these figures."""
+    if not floors:
+        return ""
+    least, length = total(asked, floors), total(asked, [it.length for it in row])
+    return "; no tree has less" + (f" than {least}" if least < length else "")
 
 
 def curve_text(asked: Namespace, curve: list[tuple[int, Found | None]], floors: list[int]) -> str:

@@ -4,6 +4,7 @@ import argparse
 import collections
 import errno
 import gc
+import importlib
 import io
 import operator
 import os
@@ -14,12 +15,23 @@ from collections.abc import Callable
 from fractions import Fraction
 from typing import NoReturn
 
-from . import VERSION, blocks, clients, counting, fio, gathering, hot, limits, model, nfs, plans, prices, strace, traces
+from . import VERSION, clients, limits, model, prices, traces
 from .calls import words_of_calls
 from .logs import Data, Refusal, Request, is_number, tell, warn_of_lost
 
 # What is done for the words of a command: the text that it prints.
 Run = Callable[[Namespace], str]
+
+
+def later(module: str, name: str) -> Run:
+    """A function of a module that is read when it is called: a command needs few of them, and reading all takes longer than most calls."""
+
+    def run(asked: Namespace) -> str:
+        found: Run = getattr(importlib.import_module(f"wafftrace.{module}"), name)
+        return found(asked)
+
+    return run
+
 
 COST_HELP = """\
 What a cost is: the time for which a message holds its affinity and a worker. `--cost latency` takes the latency of the log,
@@ -232,7 +244,7 @@ def words() -> ArgumentParser:
 
 
 def words_of_logs(part: Callable[..., ArgumentParser]) -> None:
-    found = part("fio", "the trace of iologs of fio (version 2 or 3), one for each job", of_log(fio.read), COST_HELP)
+    found = part("fio", "the trace of iologs of fio (version 2 or 3), one for each job", of_log("fio", "read"), COST_HELP)
     found.add_argument("logs", nargs="*", metavar="LOG", help="an iolog (write_iolog) of one job; `-` is standard input")
     found.add_argument(
         "--latencies", nargs="+", metavar="FILE",
@@ -246,7 +258,7 @@ def words_of_logs(part: Callable[..., ArgumentParser]) -> None:
     of_volume(found)
     of_clients(found, ("job", "none"), "job", has_lanes=True, has_depth=True)
 
-    found = part("strace", "the trace of a log of `strace -f -ttt -T -o LOG`", of_log(strace.read), COST_HELP)
+    found = part("strace", "the trace of a log of `strace -f -ttt -T -o LOG`", of_log("strace", "read"), COST_HELP)
     found.add_argument(
         "logs", nargs="*", metavar="LOG", help="the log, or several that are one in the order of time, as of `strace -ff`; `-` is standard input"
     )
@@ -260,13 +272,13 @@ def words_of_logs(part: Callable[..., ArgumentParser]) -> None:
     of_volume(found)
     of_clients(found, ("thread", "process", "family", "none"), "thread")
 
-    found = part("blkparse", "the trace of the default text of blkparse", of_log(blocks.read_blkparse), COST_HELP)
+    found = part("blkparse", "the trace of the default text of blkparse", of_log("blocks", "read_blkparse"), COST_HELP)
     found.add_argument("log", metavar="LOG", help="the text; `-` is standard input")
     imported(found)
     of_clients(found, ("process", "none"), "none", has_lanes=True)
     found.set_defaults(overlaps=overlap_of_devices, prefers_size=True)
 
-    found = part("msr", "the trace of a log in the form of SNIA's MSR Cambridge set", of_log(blocks.read_msr), COST_HELP)
+    found = part("msr", "the trace of a log in the form of SNIA's MSR Cambridge set", of_log("blocks", "read_msr"), COST_HELP)
     found.add_argument("log", metavar="CSV", help="the log; `-` is standard input")
     imported(found)
     of_clients(found, ("none",), "none")
@@ -292,7 +304,7 @@ def of_nfs(asked: Namespace) -> str:
     """The line of shell, or the trace of a text."""
     if (asked.how is None) == (asked.text is None):
         raise Refusal(2, "nfs: wanted is either TEXT or --how CAPTURE")
-    return nfs.how(asked) if asked.how is not None else of_log(nfs.read)(asked)
+    return later("nfs", "how")(asked) if asked.how is not None else of_log("nfs", "read")(asked)
 
 
 def words_of_traces(part: Callable[..., ArgumentParser]) -> None:
@@ -324,7 +336,7 @@ def words_of_traces(part: Callable[..., ArgumentParser]) -> None:
     )
 
     what = "what `waff sweep`, `limits`, `where`, `waits --worst`, `why` or `rank` told of each window, in one table"
-    found = part("gather", what, gathering.gather, GATHER_HELP)
+    found = part("gather", what, later("gathering", "gather"), GATHER_HELP)
     found.add_argument("windows", metavar="WINDOWS", help="what `waff-trace window` printed")
     found.add_argument(
         "answers", metavar="ANSWER", nargs="*",
@@ -340,16 +352,16 @@ def words_of_traces(part: Callable[..., ArgumentParser]) -> None:
     found = part("sort", "the trace in the order of its releases", traces.sort)
     found.add_argument("trace", metavar="TRACE", help="the trace, a CSV file")
 
-    found = part("stats", "what a trace has, and how much of it is over the limits of waff", counting.stats)
+    found = part("stats", "what a trace has, and how much of it is over the limits of waff", later("counting", "stats"))
     found.add_argument("trace", metavar="TRACE", help="the trace, a CSV file")
 
-    found = part("hot", "which files and names the time of affinities is of", hot.hot)
+    found = part("hot", "which files and names the time of affinities is of", later("hot", "hot"))
     found.add_argument("hier", metavar="HIER", help="the hierarchy, a TOML file")
     found.add_argument("trace", metavar="TRACE", help="the trace, a CSV file")
     found.add_argument("--map", metavar="FILE", required=True, help="which cells are whose, as an import of the log wrote it")
     found.add_argument("--affinity", metavar="A", nargs="+", help="of these affinities alone")
 
-    found = part("plan", "the text of a plan that another scheduler made, for `waff check` and `waff draw`", plans.plan)
+    found = part("plan", "the text of a plan that another scheduler made, for `waff check` and `waff draw`", later("plans", "plan"))
     found.add_argument("hier", metavar="HIER", help="the hierarchy, a TOML file")
     found.add_argument("trace", metavar="TRACE", help="the trace, a CSV file")
     found.add_argument("starts", metavar="STARTS", help="lines of a message's number, its start, and its worker if it has one")
@@ -358,11 +370,12 @@ def words_of_traces(part: Callable[..., ArgumentParser]) -> None:
     )
 
 
-def of_log(read: model.Log) -> Run:
-    """What is done for a log: the tree is written where one is wanted, and the answer is the trace."""
+def of_log(module: str, name: str) -> Run:
+    """What is done for a log that a function of a module reads: the tree is written where one is wanted, and the answer is the trace."""
 
     def run(asked: Namespace) -> str:
         kind = asked.clients = clients.kind_of(asked)
+        read: model.Log = getattr(importlib.import_module(f"wafftrace.{module}"), name)
         found = read(asked)
         store, requests = found.store, found.requests
         if not requests:
