@@ -1,8 +1,20 @@
-//! Why a run told nothing.
+//! Why a run ended before its end, and told nothing.
 
 use std::alloc::AllocError;
 use waff_inputs::ToolError;
 use waff_record::RecordError;
+
+/// Why a run ended before its end.
+#[derive(Clone, Copy, Debug, PartialEq)]
+pub enum Stopped {
+    Memory,
+    /// This message ran for too many ticks.
+    Tick(u32),
+    /// In this file something could not be done.
+    File(usize),
+    /// The line would have gone on out of turn.
+    Line,
+}
 
 /// Why a run told nothing.
 #[derive(Drop)]

@@ -3,8 +3,8 @@
 //! The cells lie in files of a folder; threads do the operations of messages, each when the line of the run
 //! lets it begin. What they noted is a plan that obeys, whoever ran when. It is told by `waff_record`.
 //! - `running`: a run, from the accepted files to the two texts; `fault`: why there are none.
-//! - `workers`: the threads, over one lock round the line; `going`: the line, whose type says of which run it is;
-//!   `perform`: the operations of a message; `touched`: the files that it touches.
+//! - `workers`: the threads, over one lock round the line; `going`: the line, whose type says of which run it is, and
+//!   the tokens of its messages; `perform`: the operations of a message; `touched`: the files that it touches.
 //! - `store`: files, or what a test has in their place; `places`: in which file a cell lies, and where;
 //!   `spots`: the cells that a trace names.
 #![tactic(auto)]
@@ -21,9 +21,9 @@ mod tests;
 mod touched;
 mod workers;
 
-pub use fault::RunError;
+pub use fault::{RunError, Stopped};
 pub use perform::Syncs;
 pub use places::{Places, Spot};
 pub use running::{Settings, planned_length, run_on};
 pub use store::{Folder, Opens, Store, StoreFault};
-pub use workers::{Pace, Stopped, run};
+pub use workers::{Pace, run};

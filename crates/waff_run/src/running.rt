@@ -6,12 +6,12 @@ ghost use Rattle.waff_plan.specs.Bound.{IsWorkers};
 ghost use Rattle.waff_record.specs.Runs.{AreRunTexts};
 ghost use Rattle.waff_run.specs.Turns.{AreRunTurns, course_by};
 
-use crate::fault::RunError;
+use crate::fault::{RunError, Stopped};
 use crate::perform::{Room, Syncs, fill};
 use crate::places::Places;
 use crate::spots::{longest_call, spots};
 use crate::store::{Store, file_name};
-use crate::workers::{Pace, Stopped, run};
+use crate::workers::{Pace, run};
 use std::alloc::{AllocError, Global};
 use std::marker::Sync;
 use std::rt::Clock;

@@ -7,8 +7,9 @@ ghost use Rattle.waff_line.specs.Machine.{IsCourse};
 ghost use Rattle.waff_plan.specs.Bound.{IsWorkers};
 ghost use Rattle.waff_run.specs.Turns.{AreRunTurns, course_by};
 
-use crate::going::{Going, RunOf};
-use crate::perform::{Room, Syncs, perform};
+use crate::fault::Stopped;
+use crate::going::{Failed, Going, Performed, RunOf, Taken};
+use crate::perform::{Room, Syncs};
 use crate::places::Places;
 use crate::store::Store;
 use std::alloc::{AllocError, Global};
@@ -43,18 +44,6 @@ pub struct Pace {
     pub tick: u64,
     /// Whether progress is told.
     pub loud: bool,
-}
-
-/// Why a run ended before its end.
-#[derive(Clone, Copy, Debug, PartialEq)]
-pub enum Stopped {
-    Memory,
-    /// This message ran for too many ticks.
-    Tick(u32),
-    /// In this file something could not be done.
-    File(usize),
-    /// The line would have gone on out of turn.
-    Line,
 }
 
 /// What is behind the lock.
@@ -223,43 +212,31 @@ fn work<C: RunOf, R: Wait + Clock + Eprint, S: Store>(
     let worker = (at as u64).saturating_add(1).min(64) as u32;
     let mut last = None;
     for _ in rt.forever() {
-        let Some(m) = take(rt, shared, worker, last) else {
+        let Some(taken) = take(rt, shared, worker, last) else {
             return;
         };
-        if let Err(stopped) = perform_message(shared, m, &mut *room) {
-            stop(rt, shared, stopped);
-            return;
+        match taken.perform(
+            shared.store,
+            shared.places,
+            shared.case.trace,
+            shared.syncs,
+            &mut *room,
+        ) {
+            Ok(performed) => last = Some(performed),
+            Err(failed) => {
+                stop(rt, shared, failed);
+                return;
+            }
         }
-        last = Some(m);
     }
-}
-
-/// Does the operations of a message.
-fn perform_message<C: RunOf, S: Store>(
-    shared: &Shared<'_, '_, S, C>,
-    m: u32,
-    room: &mut Room,
-) -> Result<(), Stopped> {
-    if m == 0 || m > shared.case.trace.len() {
-        return Ok(());
-    }
-    let syncs = match shared.syncs.get(m as usize - 1) {
-        Some(syncs) => *syncs,
-        None => Syncs::None,
-    };
-    let ops = &shared.case.trace.message(m).ops;
-    match perform(shared.store, shared.places, ops, syncs, room) {
-        Ok(()) => Ok(()),
-        Err(fault) => Err(Stopped::File(fault.file)),
-    }
+    unreachable!()
 }
 
 /// The run ends: the other workers stop when they have done what is at hand.
-fn stop<C: RunOf, R: Wait, S>(rt: &R, shared: &Shared<'_, '_, S, C>, stopped: Stopped) {
+fn stop<C: RunOf, R: Wait, S>(rt: &R, shared: &Shared<'_, '_, S, C>, failed: Failed<C>) {
+    let why = failed.why();
     let mut guard = look(rt, shared.locked);
-    if guard.stopped.is_none() {
-        guard.stopped = Some(stopped);
-    }
+    guard.stop(why);
     shared.changed.notify_all();
 }
 
@@ -282,18 +259,18 @@ fn nanos<R: Clock>(rt: &R, begin: &Instant) -> u64 {
     }
 }
 
-/// Ends the message at hand, where there is one, and takes the next one that may begin; none where the run is
-/// over. The clock is read under the lock, so that messages join in the order of their issues.
+/// Ends the message that was performed, where there is one, and takes the next one that may begin; none where the
+/// run is over. The clock is read under the lock, so that messages join in the order of their issues.
 fn take<C: RunOf, R: Wait + Clock + Eprint, S>(
     rt: &R,
     shared: &Shared<'_, '_, S, C>,
     worker: u32,
-    ended: Option<u32>,
-) -> Option<u32> {
+    last: Option<Performed<C>>,
+) -> Option<Taken<C>> {
     let mut guard = look(rt, shared.locked);
-    if let Some(m) = ended {
+    if let Some(performed) = last {
         let now = nanos(rt, &shared.begin);
-        guard.end(m, now / shared.pace.tick.max(1));
+        guard.end(performed, now / shared.pace.tick.max(1));
         shared.moves.fetch_add(1, Ordering::SeqCst);
         if guard.is_telling(shared.pace.loud, now) {
             let done = guard.line.ended();
@@ -311,9 +288,9 @@ fn take<C: RunOf, R: Wait + Clock + Eprint, S>(
         }
         let now = nanos(rt, &shared.begin);
         guard.arrive(now / shared.pace.tick.max(1));
-        if let Some(m) = guard.begin(worker) {
+        if let Some(taken) = guard.begin(worker) {
             wake(shared, &guard);
-            return Some(m);
+            return Some(taken);
         }
         if guard.stopped.is_some() {
             continue;
@@ -433,7 +410,7 @@ impl<'a, C: RunOf> Locked<'a, C> {
     }
 
     /// The first message that is ready begins on this worker.
-    fn begin(&mut self, worker: u32) -> Option<u32> {
+    fn begin(&mut self, worker: u32) -> Option<Taken<C>> {
         match self.line.begin(worker) {
             Ok(begun) => begun,
             Err(_) => {
@@ -443,9 +420,10 @@ impl<'a, C: RunOf> Locked<'a, C> {
         }
     }
 
-    /// Message `m` ends at this time.
-    fn end(&mut self, m: u32, now: u64) {
-        match self.line.end(m, now) {
+    /// A message that was performed ends at this time.
+    fn end(&mut self, performed: Performed<C>, now: u64) {
+        let m = performed.message();
+        match self.line.end(performed, now) {
             Ok(Ended::Well) => {}
             Ok(Ended::TooLong) => self.stop(Stopped::Tick(m)),
             Ok(Ended::NotRunning) => self.stop(Stopped::Line),
