@@ -5,7 +5,8 @@ In a block, a line that begins with `$ ` is a command, and the lines under it, u
 what it prints; a line `...` stands for lines that are left out. A call of waff has to be a case: the same words (but for
 `examples/`), what lays its files among the commands above it (but for what takes a file that cases share), and the output shown;
 what it prints by `>` to a file is not shown. A code span that begins with `waff: ` has to be the standard error of a case, a picture
-in SVG its standard output (of charts tests/report/run tells), and a block marked `toml` or `csv` a file that cases share.
+in SVG its standard output (of charts tests/report/run tells), and a block marked `toml` or `csv` a file that cases share. The table of
+speed-ups that README.md begins with has those of two cases of `waff limits`.
 """
 
 import re
@@ -37,6 +38,13 @@ def calls(page: str) -> Iterator[tuple[int, str, set[str], list[str]]]:
             above.add(command)
 
 
+def speed_ups(every: list[Case], trace: str) -> str:
+    """A row of README's first table, behind its first cell: what the case of `limits` for eight workers on this trace prints."""
+    (case,) = [case for case in every if case.command == f"waff limits waffinity/tree.toml waffinity/{trace} --workers 8"]
+    rows = dict(line.split(",", 1) for line in case.stream("|").splitlines())
+    return " | ".join(rows[name].split(",")[2] for name in ("data", "tree", "order", "plan"))
+
+
 def faults(commands: list[str]) -> list[str]:
     every = [case for path in HERE.glob("*.txt") for case in cases(path)]
     told = {case.stream("!").strip() for case in every} | NO_CASE
@@ -66,4 +74,7 @@ def faults(commands: list[str]) -> list[str]:
         for block in re.findall(r"^```(?:toml|csv)\n(.*?)^```$", page, re.M | re.S):
             if block not in files:
                 found.append(f"{name}: no case has this file: {block.splitlines()[:1]}")
+    for name, trace in (("a write is one message", "one.csv"), ("a write is two messages", "two.csv")):
+        if f"| {name} | {speed_ups(every, trace)} |\n" not in read(ROOT / "README.md"):
+            found.append(f"README.md: no case of limits prints its row {name!r}")
     return found if shown_calls else [*found, "the pages show no call"]

@@ -10,6 +10,7 @@
   the same words.
 - Each entry of docs/DECISIONS.md has its reason, what it was chosen over, and a line of the index with its day, in the same order.
 - README.md names the logic that `dist/waff` was proved in.
+- What docs/guide.md tells of runs by four workers stands in bench/RESULTS.md, and nothing of that is left out.
 """
 import functools
 import itertools
@@ -166,6 +167,15 @@ class Reader:
         for title, name in itertools.zip_longest(titles, named):
             self.tell(title == name, page.name, f"the index has {name} where {title} stands, or no day")
 
+    def read_runs(self, guide, results):
+        """The rows of the guide: for each log what was told and what ran, under the first tree and under the searched one."""
+        told = {}
+        for log, _, _, workers, by_log, _, ran in rows_of(results, "log"):
+            if workers == "4":
+                told.setdefault(log, []).extend([by_log, ran.split()[0]])
+        shown = {log: figures for log, *figures in rows_of(guide, "Work")}
+        self.tell(shown == told, guide.name, f"its figures of runs are not those of {results.name}: {told}")
+
     def read_logic(self):
         logic = (ROOT / "dist" / "waff.sums").read_text().splitlines()[0].split()[-1]
         self.tell(f"`{logic}`" in (ROOT / "README.md").read_text(), "README.md", f"the logic {logic} is not named")
@@ -249,6 +259,13 @@ def write_crates():
     ARCHITECTURE.write_text("\n".join(lines[:start] + HEADER + crate_rows() + lines[end:]) + "\n")
 
 
+def rows_of(page, first):
+    """The rows of the table of a page whose first column is called so."""
+    lines = [[cell.strip() for cell in line.strip("|").split("|")] if line.startswith("|") else None for _, line in page.lines]
+    begin = next(at for at, cells in enumerate(lines) if cells and cells[0] == first)
+    return list(itertools.takewhile(bool, lines[begin + 2 :]))
+
+
 def read(crates, count):
     """Reads all pages, and counts the names and links that it finds and those that it misses."""
     reader = Reader(crates, count)
@@ -262,3 +279,4 @@ def read(crates, count):
     reader.read_crates(pages["docs/architecture.md"])
     reader.read_decisions(pages["docs/DECISIONS.md"])
     reader.read_logic()
+    reader.read_runs(pages["docs/guide.md"], pages["bench/RESULTS.md"])
