@@ -16,6 +16,7 @@ mod HierarchyLaws
 mod SpellingLaws
 mod TraceSpellings
 mod LineLaws
+mod PlainLaws
 mod HalfLaws
 mod RefusalLaws
 mod AffinityLaws

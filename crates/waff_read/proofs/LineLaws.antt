@@ -199,7 +199,7 @@ strips (a ∷ b ∷ c ∷ x) rest unquoted = by (is_bom a b c) refl
     by false h = record { left = a ∷ b ∷ c ∷ x; unquoted = unquoted; whole = rw h refl; first = rw h refl }
 
 -- a text that begins otherwise has no mark at its start
-unmarked : (text : List ℕ) → (get_or text 0 0 == 0xEF) ≡ false → strip_bom text ≡ text
+pub unmarked : (text : List ℕ) → (get_or text 0 0 == 0xEF) ≡ false → strip_bom text ≡ text
 unfolding strip_bom
 unmarked [] other = refl
 unmarked (a ∷ []) other = refl

@@ -12,6 +12,7 @@ pub mod Pieces
 pub mod Places
 pub mod Messages
 pub mod Traces
+pub mod Plain
 pub mod Spellings
 pub mod Laws
 pub mod Limits

@@ -9,6 +9,7 @@ ghost use Rattle.waff_model.specs.declared.limits.TheConstants.{MAX_ALL_OPS};
 ghost use Rattle.waff_read.specs.Traces as traces;
 
 use crate::lines::cut_lines;
+use crate::plain::read_plain;
 use crate::space_table::SpaceTable;
 use crate::trace::{Messages, read_bytes, read_messages, read_trace_up_to};
 use crate::trace_fault::TraceError;
@@ -37,6 +38,9 @@ fn read_part(
         traces.Spells version spaces.now text.now read.list) }
     ensures ops { IfSome result (λ read. read.ops ≡ ops_in read.list) }
 {
+    if let Some(messages) = read_plain(alloc, spaces, version, text) {
+        return Some(messages);
+    }
     let mut rdr = text_rows(alloc, text);
     let mut row = StringRecord::new(alloc);
     read_messages(alloc, spaces, version, &mut rdr, &mut row).ok()

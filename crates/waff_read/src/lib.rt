@@ -6,14 +6,16 @@
 //! - `trace`: the reader of traces, over `message` (one record), `place` (where it stands), `ops`
 //!   (the operations of a message), `op` (one operation), `range` (an operation on cells in a row)
 //!   and `space_table` (the spaces by name); `trace_fault` has what it refuses. `halves`, over
-//!   `lines` (a text cut between its records): the same for long traces, by several threads.
+//!   `lines` (a text cut between its records) and `plain` (records without quotes): the same for
+//!   long traces, by several threads.
 //! - `laws`: what holds of all files that are accepted or refused; `limit_laws`: that what is read
 //!   is within the limits.
 //!
 //! What the files stand for is defined in `specs/`. Of a hierarchy: `Hierarchies` (whole files),
 //! over `Documents`, `Shapes`, `Affinities` and `Spaces`. Of a trace: `Traces` (whole texts), over
 //! `Messages` (records at their `Places`) and `Pieces`, which are operations (`Ops`) or `Ranges` as
-//! they are spelled, with `TraceFaults` (the order of the refusals).
+//! they are spelled, with `TraceFaults` (the order of the refusals) and `Plain` (records without
+//! quotes).
 #![tactic(auto)]
 
 mod affinities;
@@ -29,6 +31,7 @@ mod names;
 mod op;
 mod ops;
 mod place;
+mod plain;
 mod range;
 mod shape;
 mod space_table;

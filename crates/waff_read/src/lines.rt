@@ -30,8 +30,8 @@ fn line_feed(text: &[u8], place: usize) -> Option<usize>
     Some(place + steps)
 }
 
-// Whether a text begins with the first byte of a byte order mark.
-fn begins_as_mark(text: &[u8]) -> bool
+/// Whether a text begins with the first byte of a byte order mark.
+pub(crate) fn begins_as_mark(text: &[u8]) -> bool
     ensures { result ≡ (slice_index text.now 0 == 0xEF) }
 {
     !text.is_empty() && text[0] == 0xEF

@@ -84,15 +84,15 @@ pub(crate) fn read_version(newest: Version, row: &StringRecord) -> Result<Versio
     }
 }
 
-// The fields of a message: none is the field of a column that the version has not.
+/// The fields of a message: none is the field of a column that the version has not.
 #[derive(Drop)]
-struct Columns<'a> {
-    name: &'a str,
-    cost: &'a str,
-    release: Option<&'a str>,
-    client: Option<&'a str>,
-    think: Option<&'a str>,
-    ops: &'a str,
+pub(crate) struct Columns<'a> {
+    pub(crate) name: &'a str,
+    pub(crate) cost: &'a str,
+    pub(crate) release: Option<&'a str>,
+    pub(crate) client: Option<&'a str>,
+    pub(crate) think: Option<&'a str>,
+    pub(crate) ops: &'a str,
 }
 
 impl<'a> Model for Columns<'a> {
@@ -219,9 +219,9 @@ fn read_number(version: Version, at: u64) -> Result<u64, TraceFault>
     }
 }
 
-// The message that fields spell in the record at this place.
+/// The message that fields spell in the record at this place.
 #[tactic(auto, unfolding(crate::specs::Messages::message_of_columns))]
-fn message_of_columns(
+pub(crate) fn message_of_columns(
     alloc: Global,
     spaces: &SpaceTable<'_>,
     version: Version,

@@ -98,6 +98,22 @@ fn are_refused_for_the_first_fault(rt: HostRuntime) {
 }
 
 #[test]
+fn may_end_their_records_otherwise(rt: HostRuntime) {
+    let layout = read_hierarchy(rt.alloc(), H1.as_bytes()).expect(&rt, "a hierarchy");
+    let mut text = readers(rt.alloc(), 40000).expect(&rt, "a text");
+    text.push_str("m,40001,read f:1\r\n\nm,40002,read f:2\rm,40003,read f:3")
+        .expect(&rt, "a text");
+    let trace = read_trace_by_threads(&rt, rt.alloc(), &layout, Version::V3, text.as_bytes());
+    let trace = trace.expect(&rt, "a trace");
+    assert!(rt; trace.len() == 40003);
+    for n in 1..40004 {
+        is_reader(&rt, &trace, n);
+    }
+    drop(trace);
+    drop(layout);
+}
+
+#[test]
 fn may_have_quotes(rt: HostRuntime) {
     let layout = read_hierarchy(rt.alloc(), H1.as_bytes()).expect(&rt, "a hierarchy");
     let mut text = readers(rt.alloc(), 40000).expect(&rt, "a text");

@@ -1,0 +1,131 @@
+//! Texts of records without quotes, which are read without the CSV reader.
+
+ghost use Rattle.std.specs.Prelude.{◌≡◌, ◌<◌, IfSome, Ok, Some};
+ghost use Rattle.waff_model.specs.Messages.{ops_in};
+ghost use Rattle.waff_read.specs.Plain as plain;
+ghost use Rattle.waff_read.specs.Traces as traces;
+
+use crate::lines::begins_as_mark;
+use crate::message::{Columns, message_of_columns};
+use crate::place::Place;
+use crate::space_table::SpaceTable;
+use crate::trace::Messages;
+use memchr::memchr2;
+use std::alloc::Global;
+use std::str::from_utf8;
+use waff_model::{Message, Parts, Version};
+
+// The field that this byte ends, and what stands behind it; none where another sign comes first.
+fn next_field(text: &str, end: u8) -> Option<(&str, &str)>
+    requires end { end < 128 }
+    requires plain { plain.IsPlain text.now }
+    ensures { IfSome result (λ parts. plain.IsField end text.now parts.0.now parts.1.now) }
+{
+    let bytes = text.as_bytes();
+    let place = memchr2(b',', b'\n', bytes)?;
+    if bytes[place] != end {
+        return None;
+    }
+    Some((&text[..place], &text[place + 1..]))
+}
+
+// The fields of the first record of a text, and what stands behind it.
+fn next_columns(version: Version, text: &str) -> Option<(Columns<'_>, &str)>
+    requires { plain.IsPlain text.now }
+    ensures { IfSome result (λ read. plain.IsRow version text.now read.0 read.1.now) }
+{
+    let (name, rest) = next_field(text, b',')?;
+    let (cost, rest) = next_field(rest, b',')?;
+    match version {
+        Version::V1 => {
+            let (ops, rest) = next_field(rest, b'\n')?;
+            let columns = Columns {
+                name,
+                cost,
+                release: None,
+                client: None,
+                think: None,
+                ops,
+            };
+            Some((columns, rest))
+        }
+        Version::V2 => {
+            let (release, rest) = next_field(rest, b',')?;
+            let (ops, rest) = next_field(rest, b'\n')?;
+            let columns = Columns {
+                name,
+                cost,
+                release: Some(release),
+                client: None,
+                think: None,
+                ops,
+            };
+            Some((columns, rest))
+        }
+        Version::V3 => {
+            let (release, rest) = next_field(rest, b',')?;
+            let (client, rest) = next_field(rest, b',')?;
+            let (think, rest) = next_field(rest, b',')?;
+            let (ops, rest) = next_field(rest, b'\n')?;
+            let columns = Columns {
+                name,
+                cost,
+                release: Some(release),
+                client: Some(client),
+                think: Some(think),
+                ops,
+            };
+            Some((columns, rest))
+        }
+    }
+}
+
+// The message of the first record of a text, which is at this place, and what stands behind it.
+fn next_plain<'a>(
+    alloc: Global,
+    spaces: &SpaceTable<'_>,
+    version: Version,
+    place: Place,
+    text: &'a str,
+) -> Option<(Message, &'a str)>
+    requires { plain.IsPlain text.now }
+    ensures plain { IfSome result (λ read. plain.IsPlain read.1.now) }
+    ensures message { IfSome result (λ read. traces.GivesMessage version spaces.now place
+        (Ok (Some read.0)) (plain.records_in text.now) (plain.records_in read.1.now)) }
+{
+    let (columns, rest) = next_columns(version, text)?;
+    let message = message_of_columns(alloc, spaces, version, place, &columns).ok()?;
+    Some((message, rest))
+}
+
+/// The messages of a text of records without quotes; none where one has quotes, is refused or does
+/// not end with a line feed.
+pub(crate) fn read_plain(
+    alloc: Global,
+    spaces: &SpaceTable<'_>,
+    version: Version,
+    bytes: &[u8],
+) -> Option<Messages>
+    ensures messages { IfSome result (λ read.
+        traces.Spells version spaces.now bytes.now read.list) }
+    ensures ops { IfSome result (λ read. read.ops ≡ ops_in read.list) }
+{
+    if begins_as_mark(bytes) || memchr2(b'"', b'\r', bytes).is_some() {
+        return None;
+    }
+    let Ok(mut rest) = from_utf8(bytes) else {
+        return None;
+    };
+    let mut list = Vec::new(alloc);
+    let mut place = Place::first();
+    while !rest.is_empty() {
+        let (message, others) = next_plain(alloc, spaces, version, place, rest)?;
+        place = place.next(&message);
+        list.push(message).ok()?;
+        rest = others;
+    }
+    Some(Messages {
+        list: Parts::of(alloc, list),
+        ops: place.ops,
+    })
+}
