@@ -5,7 +5,7 @@ use Rattle.waff_io.specs.Writing.{AppendsPart, Tells}
 use Rattle.waff_assign.specs.Instance.{Instance}
 use Rattle.waff_inputs.specs.Fault.{fault_message, status_of}
 use Rattle.waff_inputs.specs.Inputs.{Accepts}
-use Rattle.waff_record.specs.Runs.{AreRunTexts}
+use Rattle.waff_run.specs.Texts.{TellRun}
 use Rattle.waff_run.specs.declared.fault.RunError.{RunError}
 use Rattle.waff_run.specs.declared.fault.RunError.TheVariants as run
 use Rattle.waff_cli.specs.declared.question.Task.{Task}
@@ -13,13 +13,13 @@ use Rattle.waff_cli.specs.declared.question.Task.TheVariants as task
 use Rattle.waff_answer.specs.Answers.{bytes_of, first, second}
 use Rattle.waff_answer.specs.Ends.{Ends}
 
--- the text tells of a run of the messages of these files by k workers: it is that of a plan for k workers that obeys, for the same
--- messages with the costs that were measured
+-- the text tells a run of the messages of these files by k workers: it is that of a plan for k workers that obeys, for the same
+-- messages with the costs that were measured, and this plan is what events of the machine of a run left
 pub record IsRunText (hierarchy_file trace_file : List ℕ) (k : ℕ) (text : List ℕ) : Type 0 where
   pub instance : Instance
   pub accepts : Accepts hierarchy_file trace_file instance
   pub measured : List ℕ
-  pub texts : AreRunTexts hierarchy_file instance.trace k measured text
+  pub texts : TellRun hierarchy_file instance k measured text
 
 -- the line that tells why there is no run
 abbrev pub run_message : RunError → List ℕ

@@ -3,7 +3,7 @@ ghost use Rattle.std.specs.Prelude.{◌≡◌, ℕ, ◌⊎◌, List, IfOk, OnErr
 ghost use Rattle.std.specs.Io.KnownBytes.{Appends, Keeps};
 ghost use Rattle.waff_io.specs.Writing.{AppendsPart, Tells, WritesOrFails};
 ghost use Rattle.waff_inputs.specs.Inputs.{Accepts, instance_under};
-ghost use Rattle.waff_record.specs.Runs.{AreRunTexts};
+ghost use Rattle.waff_run.specs.Texts.{TellRun};
 ghost use Rattle.waff_answer.specs.Answers.{bytes_of, first, second};
 ghost use Rattle.waff_answer.specs.Runs.{EndsRun, HasPart, IsRunText, run_message, run_status};
 
@@ -168,8 +168,9 @@ fn ran_on_files<R: Threads + Wait + Clock + Opens + Eprint + Sync>(
     hierarchy: &[u8],
     trace: &[u8],
 ) -> Result<Recorded, RunError>
-    ensures { IfOk result (λ ran. AreRunTexts hierarchy.now accepted.now.trace task.now.words.workers
-        (string_bytes ran.measured) (string_bytes ran.text)) }
+    ensures { IfOk result (λ ran. TellRun hierarchy.now
+        (instance_under accepted.now.layout accepted.now.assigned accepted.now.trace)
+        task.now.words.workers (string_bytes ran.measured) (string_bytes ran.text)) }
 {
     let words = &task.words;
     let places = Places::of(alloc, &accepted.layout, words.cell)?;

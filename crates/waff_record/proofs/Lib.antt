@@ -2,3 +2,4 @@ mod Alike
 mod ByIssue
 mod Kept
 mod ServedByIssue
+mod Turns

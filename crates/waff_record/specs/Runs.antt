@@ -1,5 +1,5 @@
 -- What a run gives out: the trace with the costs that were measured, and a plan of it.
-use Rattle.std.specs.Prelude.{◌≡◌, ℕ, ◌≤◌, List, Some, Ok, length}
+use Rattle.std.specs.Prelude.{◌≡◌, ℕ, ◌-◌, ◌≤◌, List, Some, Ok, false, length, slice_index_or}
 use Rattle.waff_model.specs.Messages.{Arrivals}
 use Rattle.waff_model.specs.Numbers.{IsAmongFirst}
 use Rattle.waff_model.specs.declared.message.Message.{Message}
@@ -15,9 +15,11 @@ use Rattle.waff_plan_text.specs.Given.{Given}
 use Rattle.waff_plan_text.specs.PlanTexts.{plan_of}
 use Rattle.waff_check.specs.Promises as promises
 use Rattle.waff_check.specs.Promises.{AreOneAtATime, Promises}
-use Rattle.waff_check.specs.Verdicts.{Claim, IsVerdict, claim_of, pairs_of_claim, start_in, told_finish}
-use Rattle.waff_check.specs.Verdicts.{work_of_claim, worker_in, workers_in}
+use Rattle.waff_check.specs.Verdicts.{Claim, IsVerdict, claim_of, pairs_of_claim, start_in, starts_of}
+use Rattle.waff_check.specs.Verdicts.{told_finish, work_of_claim, worker_in, workers_in}
 use Rattle.waff_check.specs.declared.verdict.Verdict.{Verdict}
+use Rattle.waff_plan.specs.Timing.{start_of}
+use Rattle.waff_line.specs.declared.turn.Turn.{Turn}
 use Rattle.waff_inputs.specs.Inputs.{Accepts}
 
 -- a message is the same as another but for its cost
@@ -59,16 +61,44 @@ pub record IsKept (claim : Claim) (k : ℕ) : Type 0 where
   pub seated : AreOneAtATime (work_of_claim claim) (start_in claim) (worker_in claim.plan) k
   pub apart : AreApart (pairs_of_claim claim) (work_of_claim claim) (start_in claim)
 
+-- of no message
+abbrev pub no_turn : Turn
+no_turn = record { start = 0; finish = 0; worker = 0; after = 0; late = 0; ended = false }
+
+-- the turn of message n, from 1
+abbrev pub turn_at : List Turn → ℕ → Turn
+turn_at turns n = slice_index_or turns (n - 1) no_turn
+
+-- message n of a plan that is given starts and finishes when a turn does, on the worker of that turn
+pub record HasTurn (plan : Given) (n : ℕ) (turn : Turn) : Type 0 where
+  pub start : start_of (starts_of plan) n ≡ turn.start
+  pub finish : told_finish plan n ≡ turn.finish
+  pub worker : worker_in plan n ≡ Some turn.worker
+
+-- each of so many messages has the turn of its number
+abbrev pub HaveTurns : Given → List Turn → ℕ → Type 0
+HaveTurns plan turns count = (n : ℕ) → IsAmongFirst count n → HasTurn plan n (turn_at turns n)
+
+-- a plan that is given for the messages of a trace is that of turns: each message has its own, and costs what lies
+-- between its start and its finish
+pub record IsPlanOf (claim : Claim) (turns : List Turn) : Type 0 where
+  pub count : length turns ≡ length claim.instance.trace.messages
+  pub each : HaveTurns claim.plan turns (length turns)
+  pub costs : (n : ℕ) → IsNumber (work_of_claim claim) n
+      → (work_of_claim claim).cost n ≡ (turn_at turns n).finish - (turn_at turns n).start
+
 -- a text is that of such a plan
-pub record IsPlanFor (instance : Instance) (k : ℕ) (text : List ℕ) : Type 0 where
+pub record IsPlanFor (instance : Instance) (k : ℕ) (turns : List Turn) (text : List ℕ) : Type 0 where
   pub given : Given
   pub is_plan : plan_of instance.trace.version (length instance.trace.messages) text ≡ Ok given
   pub kept : IsKept (claim_of instance given) k
+  pub told : IsPlanOf (claim_of instance given) turns
 
--- what a run of a trace by k workers gives out: the text of a measured trace, and that of a plan of it
-pub record AreRunTexts (hierarchy_file : List ℕ) (trace : Arrivals) (k : ℕ)
+-- what is told of turns of the messages of a trace, on k workers: the text of a measured trace, and that of the plan
+-- of these turns
+pub record AreRunTexts (hierarchy_file : List ℕ) (trace : Arrivals) (k : ℕ) (turns : List Turn)
     (measured_file text : List ℕ) : Type 0 where
   pub instance : Instance
   pub accepts : Accepts hierarchy_file measured_file instance
   pub measured : IsMeasured trace instance.trace
-  pub plan : IsPlanFor instance k text
+  pub plan : IsPlanFor instance k turns text

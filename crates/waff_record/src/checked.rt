@@ -6,8 +6,10 @@ ghost use Rattle.waff_assign.specs.Case.{instance_of};
 ghost use Rattle.waff_check.specs.Promises as promises;
 ghost use Rattle.waff_check.specs.Verdicts.{claim_of, start_in, work_of_claim};
 ghost use Rattle.waff_inputs.specs.Inputs.{Accepts, instance_under};
+ghost use Rattle.waff_model.specs.Numbers.{IsAmongFirst};
 ghost use Rattle.waff_plan.specs.Obeys.{KeepsOrder};
-ghost use Rattle.waff_record.specs.Runs.{IsKept, IsMeasured, IsPlanFor, IsSameButCost, service_of};
+ghost use Rattle.waff_record.specs.Runs.{HasTurn, HaveTurns, IsKept, IsMeasured, IsPlanFor, IsPlanOf};
+ghost use Rattle.waff_record.specs.Runs.{IsSameButCost, service_of, turn_at};
 
 use crate::fault::RecordError;
 use crate::service::keeps_service_order;
@@ -16,6 +18,7 @@ use std::thread::Threads;
 use waff_assign::Case;
 use waff_check::{GivenPlan, PlanTextError, Verdict, check, read_plan};
 use waff_inputs::{Accepted, ToolError, accept_by_threads};
+use waff_line::Turn;
 use waff_model::{Message, Ops, Trace};
 use waff_plan::Planned;
 
@@ -52,46 +55,100 @@ fn refused_plan(error: PlanTextError) -> RecordError {
 }
 
 /// Tries the texts of a run, of which the measured one was accepted: it has to be a trace with the messages of this
-/// one but for their costs, and the other the text of a plan of it for so many workers that obeys.
+/// one but for their costs, and the other the text of the plan of these turns, for so many workers, which obeys.
 pub fn try_texts<R: Threads + Sync>(
     rt: &R,
     alloc: Global,
     trace: &Trace,
     accepted: &Accepted,
     text: &[u8],
+    turns: &[Turn],
     workers: u32,
 ) -> Result<(), RecordError>
     ensures measured { OnOk result (IsMeasured trace.now accepted.now.trace) }
     ensures plan { OnOk result (IsPlanFor (instance_under accepted.now.layout
-        accepted.now.assigned accepted.now.trace) workers text.now) }
+        accepted.now.assigned accepted.now.trace) workers turns.now text.now) }
 {
     if !is_measured(trace, &accepted.trace) {
         return Err(RecordError::Refused);
     }
-    try_plan(rt, alloc, &accepted.case(), text, workers)
+    try_plan(rt, alloc, &accepted.case(), text, turns, workers)
 }
 
-/// Tries the text of a plan for so many workers.
+/// Tries the text of the plan of these turns, for so many workers.
 fn try_plan<R: Threads + Sync>(
     rt: &R,
     alloc: Global,
     case: &Case<'_>,
     text: &[u8],
+    turns: &[Turn],
     workers: u32,
 ) -> Result<(), RecordError>
-    ensures { OnOk result (IsPlanFor (instance_of case.now) workers text.now) }
+    ensures { OnOk result (IsPlanFor (instance_of case.now) workers turns.now text.now) }
 {
     let given = match read_plan(alloc, case.trace.version(), case.trace.len(), text) {
         Ok(given) => given,
         Err(error) => return Err(refused_plan(error)),
     };
-    let kept = is_kept(rt, alloc, case, &given, workers);
+    let kept = is_plan_of(rt, alloc, case, &given, turns, workers);
     drop(given);
     match kept {
         Ok(true) => Ok(()),
         Ok(false) => Err(RecordError::Refused),
         Err(error) => Err(RecordError::from(error)),
     }
+}
+
+/// Whether a plan that was read for a case is that of these turns, and is kept by so many workers.
+fn is_plan_of<R: Threads + Sync>(
+    rt: &R,
+    alloc: Global,
+    case: &Case<'_>,
+    given: &GivenPlan,
+    turns: &[Turn],
+    workers: u32,
+) -> Result<bool, AllocError>
+    requires rows { length given.now.rows ≡ length case.now.trace.now.messages }
+    requires version { given.now.version ≡ case.now.trace.now.version }
+    ensures kept { IfOk result (λ is. OnTrue is
+        (IsKept (claim_of (instance_of case.now) given.now) workers)) }
+    ensures told { IfOk result (λ is. OnTrue is
+        (IsPlanOf (claim_of (instance_of case.now) given.now) turns.now)) }
+{
+    if !tells_turns(given, turns) {
+        return Ok(false);
+    }
+    is_kept(rt, alloc, case, given, workers)
+}
+
+/// Whether a plan that was read tells these turns of its messages, and no others.
+fn tells_turns(given: &GivenPlan, turns: &[Turn]) -> bool
+    ensures count { OnTrue result (length turns.now ≡ length given.now.rows) }
+    ensures each { OnTrue result (HaveTurns given.now turns.now (length turns.now)) }
+{
+    let count = given.len();
+    if turns.len() != count as usize {
+        return false;
+    }
+    for at in 0..count {
+        if !has_turn(given, turns, at + 1) {
+            return false;
+        }
+    }
+    true
+}
+
+/// Whether message `n` starts and finishes when its turn does, on the worker of that turn.
+fn has_turn(given: &GivenPlan, turns: &[Turn], n: u32) -> bool
+    requires row { IsAmongFirst (length given.now.rows) n }
+    requires turn { IsAmongFirst (length turns.now) n }
+    ensures { OnTrue result (HasTurn given.now n (turn_at turns.now n)) }
+{
+    let row = given.row(n);
+    let turn = &turns[n as usize - 1];
+    row.start == turn.start
+        && row.finish == turn.finish
+        && row.worker == Some(u64::from(turn.worker))
 }
 
 /// Whether a plan that was read for a case is one for so many workers in which the check finds no fault, and which

@@ -44,7 +44,7 @@ pub fn record_of<R: Threads + Sync>(
     workers: u32,
 ) -> Result<Recorded, RecordError>
     requires workers { IsWorkers workers }
-    ensures { IfOk result (λ ran. AreRunTexts hierarchy.now trace.now workers
+    ensures { IfOk result (λ ran. AreRunTexts hierarchy.now trace.now workers turns.now
         (string_bytes ran.measured) (string_bytes ran.text)) }
 {
     let tally = tally_of(alloc, turns)?;
@@ -82,7 +82,7 @@ fn text_for<R: Threads + Sync>(
 ) -> Result<String, RecordError>
     requires workers { IsWorkers workers }
     ensures { IfOk result (λ text.
-        AreRunTexts hierarchy.now trace.now workers measured.now (string_bytes text)) }
+        AreRunTexts hierarchy.now trace.now workers turns.now measured.now (string_bytes text)) }
 {
     let accepted = accept_measured(rt, alloc, hierarchy, measured)?;
     let text = tried_text(rt, alloc, trace, &accepted, turns, workers);
@@ -102,10 +102,10 @@ fn tried_text<R: Threads + Sync>(
     requires workers { IsWorkers workers }
     ensures measured { OnOk result (IsMeasured trace.now accepted.now.trace) }
     ensures plan { IfOk result (λ text. IsPlanFor (instance_under accepted.now.layout
-        accepted.now.assigned accepted.now.trace) workers (string_bytes text)) }
+        accepted.now.assigned accepted.now.trace) workers turns.now (string_bytes text)) }
 {
     let text = plan_text(alloc, &accepted.case(), turns, workers)?.ok_or(RecordError::Refused)?;
-    match try_texts(rt, alloc, trace, accepted, text.as_bytes(), workers) {
+    match try_texts(rt, alloc, trace, accepted, text.as_bytes(), turns, workers) {
         Ok(()) => Ok(text),
         Err(error) => {
             drop(text);

@@ -1,2 +1,6 @@
 mod Planned
 mod Reached
+mod Rows
+mod Lying
+mod Ending
+mod Listing

@@ -1,1 +1,6 @@
+pub mod Texts
 pub mod Turns
+pub mod Places
+pub mod PlaceLaws
+pub mod Named
+pub mod Syncing

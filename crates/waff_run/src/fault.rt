@@ -1,5 +1,6 @@
 //! Why a run ended before its end, and told nothing.
 
+use crate::store::StoreFault;
 use std::alloc::AllocError;
 use waff_inputs::ToolError;
 use waff_record::RecordError;
@@ -14,6 +15,18 @@ pub enum Stopped {
     File(usize),
     /// The line would have gone on out of turn.
     Line,
+}
+
+impl From<AllocError> for Stopped {
+    fn from(_error: AllocError) -> Stopped {
+        Stopped::Memory
+    }
+}
+
+impl From<StoreFault> for Stopped {
+    fn from(fault: StoreFault) -> Stopped {
+        Stopped::File(fault.file)
+    }
 }
 
 /// Why a run told nothing.

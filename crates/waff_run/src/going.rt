@@ -15,9 +15,10 @@ ghost use Rattle.waff_line.specs.declared.event.Event.TheVariants.{Begin, End};
 ghost use Rattle.waff_run.specs.Turns.{AreReached, no_course};
 
 use crate::fault::Stopped;
-use crate::perform::{Room, Syncs, perform};
+use crate::perform::{Room, perform};
 use crate::places::Places;
 use crate::store::Store;
+use crate::syncing::Syncs;
 use std::alloc::AllocError;
 use std::marker::{Brand, Model, PhantomData};
 use waff_line::{Ended, Line, Turn, Unready};
@@ -190,8 +191,5 @@ fn perform_message<S: Store>(
         Some(syncs) => *syncs,
         None => Syncs::None,
     };
-    match perform(store, places, &trace.message(m).ops, syncs, room) {
-        Ok(()) => Ok(()),
-        Err(fault) => Err(Stopped::File(fault.file)),
-    }
+    perform(store, places, &trace.message(m).ops, syncs, room)
 }

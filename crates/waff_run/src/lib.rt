@@ -4,26 +4,28 @@
 //! lets it begin. What they noted is a plan that obeys, whoever ran when. It is told by `waff_record`.
 //! - `running`: a run, from the accepted files to the two texts; `fault`: why there are none.
 //! - `workers`: the threads, over one lock round the line; `going`: the line, whose type says of which run it is, and
-//!   the tokens of its messages; `perform`: the operations of a message; `touched`: the files that it touches.
-//! - `store`: files, or what a test has in their place; `places`: in which file a cell lies, and where;
-//!   `spots`: the cells that a trace names.
+//!   the tokens of its messages.
+//! - `perform`: the operations of a message; `calls`: how many of them are one call; `syncing`: which files are synced
+//!   at its end.
+//! - `store`: files, or what a test has in their place; `places`: in which file a cell lies, and where; `laws`: what
+//!   holds of that; `spots`: the cells that a trace names.
 #![tactic(auto)]
 
+mod calls;
 mod fault;
 mod going;
+pub mod laws;
 mod perform;
 mod places;
 mod running;
 mod spots;
 mod store;
-#[cfg(test)]
-mod tests;
-mod touched;
+mod syncing;
 mod workers;
 
 pub use fault::{RunError, Stopped};
-pub use perform::Syncs;
 pub use places::{Places, Spot};
 pub use running::{Settings, planned_length, run_on};
 pub use store::{Folder, Opens, Store, StoreFault};
+pub use syncing::Syncs;
 pub use workers::{Pace, run};

@@ -1,21 +1,12 @@
 //! The operations of a message, done on a store.
 
+use crate::calls::call_length;
+use crate::fault::Stopped;
 use crate::places::{Places, Spot};
-use crate::spots::{call_length, cells};
 use crate::store::{Store, StoreFault};
-use crate::touched::Touched;
+use crate::syncing::{Syncs, list_synced};
 use std::alloc::{AllocError, Global};
-use waff_model::{Cell, Op, Ops};
-
-/// Which files are synced at the end of a message.
-#[derive(Clone, Copy, Debug, PartialEq)]
-pub enum Syncs {
-    None,
-    /// Those that it has written.
-    Written,
-    /// Those in which its cells lie.
-    All,
-}
+use waff_model::{Op, Ops};
 
 /// The room in which a worker does operations.
 #[derive(Drop)]
@@ -23,17 +14,17 @@ pub struct Room {
     one: Vec<u8>,
     two: Vec<u8>,
     /// The files that are to be synced.
-    touched: Touched,
+    files: Vec<usize>,
 }
 
 impl Room {
-    /// Room for calls of so many cells, and for files that are touched.
+    /// Room for calls of so many cells.
     pub fn of(alloc: Global, places: &Places, cells: usize) -> Result<Room, AllocError> {
         let bytes = places.bytes() as usize;
         Ok(Room {
             one: vec![in alloc; 0; bytes.saturating_mul(cells)]?,
             two: vec![in alloc; 0; bytes]?,
-            touched: Touched::none(alloc, places.files())?,
+            files: Vec::new(alloc),
         })
     }
 }
@@ -45,21 +36,29 @@ pub fn perform<S: Store>(
     ops: &Ops,
     syncs: Syncs,
     room: &mut Room,
-) -> Result<(), StoreFault> {
+) -> Result<(), Stopped> {
     let mut at = 0;
-    for _ in 0..ops.len() {
-        if at >= ops.len() {
-            break;
-        }
+    while at < ops.len() {
         let count = call_length(places, ops, at);
         do_call(store, places, ops.get(at), count, room)?;
-        at = at.saturating_add(count);
+        at += count;
     }
+    sync(store, places, ops, syncs, &mut room.files)
+}
+
+/// Syncs files in which the cells of operations lie, each once.
+fn sync<S: Store>(
+    store: &S,
+    places: &Places,
+    ops: &Ops,
+    syncs: Syncs,
+    files: &mut Vec<usize>,
+) -> Result<(), Stopped> {
     if syncs == Syncs::None {
         return Ok(());
     }
-    touch(places, ops, syncs, &mut room.touched);
-    for file in room.touched.as_slice() {
+    list_synced(places, ops, syncs, files)?;
+    for file in files.iter() {
         store.sync(*file)?;
     }
     Ok(())
@@ -140,30 +139,6 @@ fn put(bytes: &mut [u8], value: u64) {
 fn repeat(bytes: &mut [u8], value: u64) {
     for part in bytes.chunks_mut(8) {
         put(part, value);
-    }
-}
-
-/// Notes the files that are to be synced, each once.
-fn touch(places: &Places, ops: &Ops, syncs: Syncs, touched: &mut Touched) {
-    touched.clear();
-    for at in 0..ops.len() {
-        let op = ops.get(at);
-        let (cell, other) = cells(op);
-        let (first, second) = match (syncs, op) {
-            (Syncs::All, _) => (Some(cell), other),
-            (_, Op::Read { .. }) => (None, None),
-            (_, Op::Swap { .. }) => (Some(cell), other),
-            _ => (Some(cell), None),
-        };
-        touch_one(places, first, touched);
-        touch_one(places, second, touched);
-    }
-}
-
-/// Notes the file of a cell, where there is one.
-fn touch_one(places: &Places, cell: Option<Cell>, touched: &mut Touched) {
-    if let Some(cell) = cell {
-        touched.insert(places.spot(cell).file);
     }
 }
 

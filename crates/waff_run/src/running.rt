@@ -3,14 +3,16 @@
 ghost use Rattle.std.specs.Prelude.{IfOk, string_bytes};
 ghost use Rattle.waff_inputs.specs.Inputs.{instance_under};
 ghost use Rattle.waff_plan.specs.Bound.{IsWorkers};
-ghost use Rattle.waff_record.specs.Runs.{AreRunTexts};
+ghost use Rattle.waff_run.specs.Texts.{TellRun};
 ghost use Rattle.waff_run.specs.Turns.{AreRunTurns, course_by};
 
+use crate::calls::longest_call;
 use crate::fault::{RunError, Stopped};
-use crate::perform::{Room, Syncs, fill};
+use crate::perform::{Room, fill};
 use crate::places::Places;
-use crate::spots::{longest_call, spots};
+use crate::spots::spots;
 use crate::store::{Store, file_name};
+use crate::syncing::Syncs;
 use crate::workers::{Pace, run};
 use std::alloc::{AllocError, Global};
 use std::marker::Sync;
@@ -47,7 +49,8 @@ pub fn run_on<R: Threads + Wait + Clock + Eprint + Sync, S: Store + Sync>(
     settings: &Settings<'_>,
 ) -> Result<Recorded, RunError>
     requires workers { IsWorkers settings.now.pace.workers }
-    ensures { IfOk result (λ ran. AreRunTexts hierarchy.now accepted.now.trace
+    ensures { IfOk result (λ ran. TellRun hierarchy.now
+        (instance_under accepted.now.layout accepted.now.assigned accepted.now.trace)
         settings.now.pace.workers (string_bytes ran.measured) (string_bytes ran.text)) }
 {
     let turns = turns_of(rt, alloc, accepted, store, places, settings)?;

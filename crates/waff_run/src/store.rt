@@ -127,12 +127,13 @@ pub(crate) fn file_name(
     places: &Places,
     file: usize,
 ) -> Result<String, AllocError> {
-    let (space, place) = places.place(file);
-    if space >= layout.space_count() {
-        return format!(in alloc; "{file}");
+    match places.place(file) {
+        Some((space, place)) if space < layout.space_count() as usize => {
+            let name = layout.space_name(space as u32);
+            format!(in alloc; "{name}.{place}")
+        }
+        _ => format!(in alloc; "{file}"),
     }
-    let name = layout.space_name(space);
-    format!(in alloc; "{name}.{place}")
 }
 
 /// Opens the file of this number, of this many bytes at least.

@@ -9,14 +9,15 @@ ghost use Rattle.waff_run.specs.Turns.{AreRunTurns, course_by};
 
 use crate::fault::Stopped;
 use crate::going::{Failed, Going, Performed, RunOf, Taken};
-use crate::perform::{Room, Syncs};
+use crate::perform::Room;
 use crate::places::Places;
 use crate::store::Store;
+use crate::syncing::Syncs;
 use std::alloc::{AllocError, Global};
 use std::hint::spin_loop;
 use std::marker::{Brand, Send, Sync};
 use std::rt::Clock;
-use std::sync::atomic::{AtomicU64, Ordering};
+use std::sync::atomic::{AtomicBool, Ordering};
 use std::sync::{Condvar, CondvarTimeouts, Mutex, MutexGuard, Wait};
 use std::thread;
 use std::thread::Threads;
@@ -25,7 +26,7 @@ use waff_assign::Case;
 use waff_line::{Ended, Line, Turn, laws};
 use waff_plan::NEVER;
 
-/// How often a worker looks before it sleeps.
+/// How often a worker looks for a message before it takes the lock again.
 const LOOKS: u32 = 1_000;
 
 /// A sleep ends some 50 microseconds late: for so many nanoseconds before a deadline a worker looks at the
@@ -68,8 +69,8 @@ struct Shared<'r, 'a, S, C: RunOf> {
     syncs: &'r [Syncs],
     locked: &'r Mutex<Locked<'a, C>>,
     changed: &'r Condvar,
-    /// Changes whenever a message ends.
-    moves: &'r AtomicU64,
+    /// Whether a worker has left something to do that no other has taken up. One of those that look takes it down.
+    offer: &'r AtomicBool,
     begin: Instant,
     pace: Pace,
 }
@@ -120,7 +121,7 @@ fn run_at<C: RunOf + Send + Sync, R: Threads + Wait + Clock + Eprint + Sync, S: 
     };
     let locked = Mutex::new(Locked::<C>::of(Going::of(line)));
     let changed = Condvar::new();
-    let moves = AtomicU64::new(0);
+    let offer = AtomicBool::new(false);
     let shared = Shared {
         case,
         store,
@@ -128,14 +129,24 @@ fn run_at<C: RunOf + Send + Sync, R: Threads + Wait + Clock + Eprint + Sync, S: 
         syncs,
         locked: &locked,
         changed: &changed,
-        moves: &moves,
+        offer: &offer,
         begin,
         pace,
     };
-    if !work_all(rt, alloc, &shared, rooms.as_slice()) {
+    let has_worked = work_all(rt, alloc, &shared, rooms.as_slice());
+    let locked = locked.into_inner();
+    clear_progress(rt, &locked);
+    if !has_worked {
         return Err(Stopped::Memory);
     }
-    ended(alloc, &locked.into_inner())
+    ended(alloc, &locked)
+}
+
+/// Clears the line of progress, where one was told: what is told next has a line of its own.
+fn clear_progress<C: RunOf, R: Eprint>(rt: &R, locked: &Locked<'_, C>) {
+    if locked.told > 0 {
+        let _ = rt.eprint(format_args!("\r{:33}\r", ""));
+    }
 }
 
 /// Works on each worker, and whether memory was there for it.
@@ -271,18 +282,19 @@ fn take<C: RunOf, R: Wait + Clock + Eprint, S>(
     if let Some(performed) = last {
         let now = nanos(rt, &shared.begin);
         guard.end(performed, now / shared.pace.tick.max(1));
-        shared.moves.fetch_add(1, Ordering::SeqCst);
         if guard.is_telling(shared.pace.loud, now) {
             let done = guard.line.ended();
+            shared.offer.store(true, Ordering::SeqCst);
             let unlocked = MutexGuard::unlock(guard);
             let count = shared.case.trace.len();
             let _ = rt.eprint(format_args!("\rwaff: {done} of {count} messages"));
             guard = look(rt, unlocked);
         }
     }
-    let mut looked = false;
+    let mut looked = None;
     for _ in rt.forever() {
         if guard.is_over() {
+            shared.offer.store(true, Ordering::SeqCst);
             shared.changed.notify_all();
             return None;
         }
@@ -296,52 +308,63 @@ fn take<C: RunOf, R: Wait + Clock + Eprint, S>(
             continue;
         }
         if guard.is_soon(shared.pace.tick, now) {
-            guard = await_issue(rt, guard);
-        } else if looked {
+            guard = await_issue(rt, shared, guard);
+        } else if looked == Some(guard.line.ended()) {
             guard = sleep(rt, shared, guard);
         } else {
-            let seen = shared.moves.load(Ordering::SeqCst);
-            let unlocked = MutexGuard::unlock(guard);
-            looked = !moves_soon(shared, seen);
-            guard = look(rt, unlocked);
+            looked = Some(guard.line.ended());
+            guard = await_offer(rt, shared, guard, u64::MAX);
         }
     }
     unreachable!()
 }
 
 /// Keeps the deadline of the next issue, which is near, without sleeping.
-fn await_issue<'b, 'a, C: RunOf, R: Wait>(
+fn await_issue<'b, 'a, C: RunOf, R: Wait + Clock, S>(
     rt: &R,
+    shared: &Shared<'_, '_, S, C>,
     guard: MutexGuard<'b, Locked<'a, C>>,
 ) -> MutexGuard<'b, Locked<'a, C>> {
     let mut guard = guard;
     let due = guard.line.next();
     guard.keeper = due;
-    let unlocked = MutexGuard::unlock(guard);
-    spin_loop();
-    let mut guard = look(rt, unlocked);
+    let until = due.saturating_mul(shared.pace.tick);
+    let mut guard = await_offer(rt, shared, guard, until);
     guard.leave(due);
     guard
 }
 
-/// Whether a message ends while this worker looks.
-fn moves_soon<C: RunOf, S>(shared: &Shared<'_, '_, S, C>, seen: u64) -> bool {
+/// Looks for a message that another worker leaves, until this time at most, in nanoseconds. Who looks keeps away from
+/// the lock, which those need who have a message.
+fn await_offer<'b, 'a, C: RunOf, R: Wait + Clock, S>(
+    rt: &R,
+    shared: &Shared<'_, '_, S, C>,
+    guard: MutexGuard<'b, Locked<'a, C>>,
+    until: u64,
+) -> MutexGuard<'b, Locked<'a, C>> {
+    let unlocked = MutexGuard::unlock(guard);
     for _ in 0..LOOKS {
-        if shared.moves.load(Ordering::SeqCst) != seen {
-            return true;
+        let is_offered = shared.offer.load(Ordering::SeqCst)
+            && shared.offer.swap(false, Ordering::SeqCst);
+        if is_offered || nanos(rt, &shared.begin) >= until {
+            break;
         }
         spin_loop();
     }
-    false
+    look(rt, unlocked)
 }
 
-/// Wakes all workers where none is needed any more, and one more where there is more to do, or where nobody
-/// waits for the next issue.
+/// Offers what is left to do to one of those that look, and wakes one that sleeps where there is more to do, or where
+/// nobody waits for the next issue. Wakes all where none is needed any more.
 fn wake<C: RunOf, S>(shared: &Shared<'_, '_, S, C>, locked: &Locked<'_, C>) {
-    if locked.line.waiting() == 0 {
-        shared.changed.notify_all();
-    } else if locked.asleep > 0 && (locked.line.is_ready() || locked.line.next() < locked.keeper) {
-        shared.changed.notify_one();
+    let is_over = locked.line.waiting() == 0;
+    if is_over || locked.line.is_ready() || locked.line.next() < locked.keeper {
+        shared.offer.store(true, Ordering::SeqCst);
+        if is_over {
+            shared.changed.notify_all();
+        } else if locked.asleep > 0 {
+            shared.changed.notify_one();
+        }
     }
 }
 

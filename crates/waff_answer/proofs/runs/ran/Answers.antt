@@ -1,7 +1,6 @@
 use Rattle.std.proofs.Common.{◌∙◌, ap, subst, string_bytes}
 use Rattle.std.proofs.lemmas.Result.{IfOk-weaker}
 use Rattle.waff_inputs.specs.Inputs.{instance_under}
-use Rattle.waff_record.specs.Runs.{AreRunTexts}
 use Rattle.waff_tool.specs.Ranks.{file_at}
 use Rattle.waff_answer.specs.Answers.{bytes_of, second}
 use Rattle.waff_answer.specs.Runs.{IsRunText}

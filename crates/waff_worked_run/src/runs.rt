@@ -3,12 +3,6 @@
 ghost use Rattle.std.specs.Prelude.{◌≡◌};
 ghost use Rattle.waff_plan.specs.Bound.{IsWorkers};
 
-use crate::fault::RunError;
-use crate::places::{Places, Spot};
-use crate::running::{Settings, run_on};
-use crate::store::{Store, StoreFault};
-use crate::touched::Touched;
-use crate::workers::Pace;
 use std::alloc::Global;
 use std::marker::Sync;
 use std::rt::Clock;
@@ -18,6 +12,7 @@ use std::thread::Threads;
 use waff_inputs::accept;
 use waff_model::Cell;
 use waff_record::Recorded;
+use waff_run::{Pace, Places, RunError, Settings, Spot, Store, StoreFault, run_on};
 
 /// Files of 64 bytes each, without a lock that waits: a file that somebody else holds is a fault, since the tree
 /// lets nobody run beside who writes it.
@@ -175,18 +170,5 @@ fn tells_a_fault_of_the_store(rt: HostRuntime) -> Result<(), Fail> {
         Err(RunError::File(name)) => assert_eq!(rt; name.as_str(), "s.1"),
         _ => return Err(Fail::new("no fault")),
     }
-    Ok(())
-}
-
-#[test]
-fn notes_each_file_once(rt: HostRuntime) -> Result<(), Fail> {
-    let mut touched = Touched::none(rt.alloc(), 3)?;
-    for file in [2, 0, 2, 0] {
-        touched.insert(file);
-    }
-    assert_eq!(rt; touched.as_slice(), [2, 0].as_slice());
-    touched.clear();
-    touched.insert(0);
-    assert_eq!(rt; touched.as_slice(), [0].as_slice());
     Ok(())
 }

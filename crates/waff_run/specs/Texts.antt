@@ -1,0 +1,13 @@
+-- The texts that a run gives out.
+use Rattle.std.specs.Prelude.{ℕ, List}
+use Rattle.waff_assign.specs.Instance.{Instance}
+use Rattle.waff_line.specs.declared.turn.Turn.{Turn}
+use Rattle.waff_record.specs.Runs.{AreRunTexts}
+use Rattle.waff_run.specs.Turns.{AreRunTurns, course_by}
+
+-- texts tell a run of an instance by so many workers: events of the machine left turns, and these are told
+pub record TellRun (hierarchy_file : List ℕ) (instance : Instance) (workers : ℕ)
+    (measured_file text : List ℕ) : Type 0 where
+  pub turns : List Turn
+  pub ran : AreRunTurns (course_by instance workers) turns
+  pub texts : AreRunTexts hierarchy_file instance.trace workers turns measured_file text
