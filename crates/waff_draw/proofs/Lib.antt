@@ -9,3 +9,4 @@ mod PreorderLemmas
 mod RowLemmas
 mod PartLemmas
 mod ColourLemmas
+mod RunLemmas

@@ -1,11 +1,11 @@
--- The colours of bars: the first eight distinct names of messages have one each.
+-- The colours of bars: the first sixteen distinct names of messages have one each.
 use Rattle.std.specs.Prelude.{ℕ, ◌+◌, List, Option, Some, None, position, take}
 use Rattle.std.specs.Str.{bytes_eq}
 use Rattle.waff_model.specs.DistinctNames.{distinct_names}
 
--- the names that have a colour: the first eight of the distinct ones
+-- the names that have a colour: the first sixteen of the distinct ones
 abbrev pub coloured : List (List ℕ) → List (List ℕ)
-coloured names = take 8 (distinct_names names)
+coloured names = take 16 (distinct_names names)
 
 -- the number of a colour by the place of its name, 0 for the names that have none
 abbrev pub colour_at : Option ℕ → ℕ

@@ -7,6 +7,8 @@ pub mod Colours
 pub mod Scene
 pub mod Kinds
 pub mod Bars
+pub mod Frames
+pub mod Runs
 pub mod Charts
 pub mod Svg
 pub mod Events

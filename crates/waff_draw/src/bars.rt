@@ -3,7 +3,7 @@
 ghost use Rattle.std.specs.Prelude.{◌≡◌, OnOk};
 ghost use Rattle.waff_plan.specs.Work.{IsNumber};
 ghost use Rattle.waff_plan_text.specs.Lines.{Adds};
-ghost use Rattle.waff_draw.specs.Bars.{bar_at, bar_in, bars_of, is_narrow};
+ghost use Rattle.waff_draw.specs.Bars.{bar_at, bar_in, bars_of, is_narrow, left_of, right_of};
 ghost use Rattle.waff_draw.specs.Scene.{work_of_scene};
 
 use crate::chart::Chart;
@@ -58,22 +58,35 @@ fn bar_of(chart: &Chart<'_>, row: u64, n: u32) -> Bar
     requires { IsNumber (work_of_scene chart.now) n }
     ensures { result ≡ bar_at chart.now row n }
 {
-    let ticks = chart.shown_ticks(n);
-    let start = u128::from(chart.shown_start(n));
-    let from = u128::from(chart.from());
-    let left = chart.place(start - from);
-    let right = chart.place(start + u128::from(ticks) - from);
+    let left = left_of(chart, n);
     Bar {
         message: n,
         row,
         left,
-        width: right.saturating_sub(left),
+        width: right_of(chart, n).saturating_sub(left),
         start: chart.start(n),
         finish: chart.finish(n),
         colour: chart.colour(n),
         is_link: chart.is_link(n),
-        is_thin: is_narrow(chart.span(), ticks),
+        is_thin: is_narrow(chart.span(), chart.shown_ticks(n)),
     }
+}
+
+/// Where the bar of message `n` begins, in hundredths of a pixel from the left of the part.
+pub(crate) fn left_of(chart: &Chart<'_>, n: u32) -> u128
+    requires { IsNumber (work_of_scene chart.now) n }
+    ensures { result ≡ left_of chart.now n }
+{
+    chart.place(u128::from(chart.shown_start(n)) - u128::from(chart.from()))
+}
+
+/// Where it ends.
+pub(crate) fn right_of(chart: &Chart<'_>, n: u32) -> u128
+    requires { IsNumber (work_of_scene chart.now) n }
+    ensures { result ≡ right_of chart.now n }
+{
+    let end = u128::from(chart.shown_start(n)) + u128::from(chart.shown_ticks(n));
+    chart.place(end - u128::from(chart.from()))
 }
 
 /// Whether so many ticks are narrower than four pixels where these are a thousand wide.

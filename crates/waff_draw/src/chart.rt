@@ -1,6 +1,6 @@
 //! What a picture shows, made ready for drawing.
 
-ghost use Rattle.std.specs.Prelude.{◌≡◌, ◌^◌, ◌<◌, ◌≤◌, [], IfOk, IfSome, length};
+ghost use Rattle.std.specs.Prelude.{◌≡◌, ◌^◌, ◌<◌, ◌≤◌, [], All, IfOk, IfSome, length};
 ghost use Rattle.std.specs.Prelude.{slice_index_or};
 ghost use Rattle.waff_model.specs.Tree.{name_of};
 ghost use Rattle.waff_assign.specs.Case.{instance_of};
@@ -155,7 +155,7 @@ impl<'a> Chart<'a> {
     /// How many names have a colour.
     pub(crate) fn colour_count(&self) -> u64
         ensures count { result ≡ length (coloured_in self.now) }
-        ensures few { result ≤ 8 }
+        ensures few { result ≤ 16 }
     {
         self.colours.len() as u64
     }
@@ -223,6 +223,15 @@ impl<'a> Chart<'a> {
         ensures { result ≡ is_among self.now.plan.summary.chain n }
     {
         self.links[n as usize]
+    }
+
+    /// The messages of the chain.
+    pub(crate) fn chain(&self) -> &[u32]
+        ensures chain { result.now ≡ self.now.plan.summary.chain }
+        ensures numbers { All (IsNumber (work_of_scene self.now)) result.now }
+    {
+        let given = self.given;
+        given.chain()
     }
 
     /// The tick from which it is shown.

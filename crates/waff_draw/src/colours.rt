@@ -1,4 +1,4 @@
-//! The colours of bars: the first eight distinct names of messages have one each.
+//! The colours of bars: the first sixteen distinct names of messages have one each.
 
 ghost use Rattle.std.specs.Prelude.{◌≡◌, ◌<◌, ◌≤◌, [], IfOk, length, slice_index_or};
 ghost use Rattle.waff_model.specs.DistinctNames.{message_names};
@@ -9,7 +9,7 @@ use std::marker::Model;
 use waff_model::{DistinctNames, Trace};
 
 /// How many names have a colour.
-const COLOURS: usize = 8;
+const COLOURS: usize = 16;
 
 /// The names that have a colour, in the order in which they first appear.
 #[derive(Drop)]
@@ -24,7 +24,7 @@ impl<'a> Model for Colours<'a> {
 
     ghost view = { λ c. c.names };
 
-    ghost invariant = { λ c. length c.names ≤ 8 };
+    ghost invariant = { λ c. length c.names ≤ 16 };
 }
 
 impl<'a> Colours<'a> {
@@ -55,7 +55,7 @@ impl<'a> Colours<'a> {
     /// How many names have a colour.
     pub(crate) fn len(&self) -> usize
         ensures count { result ≡ length self.now }
-        ensures few { result ≤ 8 }
+        ensures few { result ≤ 16 }
     {
         self.names.len()
     }

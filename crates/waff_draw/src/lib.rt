@@ -6,7 +6,8 @@
 //!   are in preorder; which ticks are shown, and where the axis has lines.
 //! - `parts`: the ticks that are shown; `chart`: what a picture shows, made ready for drawing.
 //! - `colours`: which names have a colour; `axis`: round numbers of ticks; `xml`: names in a document of markup.
-//! - `svg`: the text of the picture; `bars`: its bars; `pieces`: what both are made of.
+//! - `svg`: the text of the picture; `bars`: its bars; `runs`: the outlines of the chain; `frame`: where
+//!   what is around them stands; `pieces`: what all are made of.
 //! - `events`: the same as events of threads, for a viewer of traces.
 #![tactic(auto)]
 
@@ -15,11 +16,13 @@ mod bars;
 mod chart;
 mod colours;
 mod events;
+mod frame;
 mod lanes;
 mod laws;
 mod marks;
 mod parts;
 mod pieces;
+mod runs;
 mod svg;
 mod xml;
 

@@ -8,4 +8,4 @@ use Rattle.waff_draw.proofs.svg.push_colours.Given as goal
 abbrev pub invariant-loop-place : goal.invariant-loop-place
 invariant-loop-place l =
     Adds l.initial.text l.text
-    (flat_map (λ place. colour_text place (get_or (coloured_in l.chart) place [])) (range_with_len 0 l.place))
+    (flat_map (λ place. colour_text l.chart place (get_or (coloured_in l.chart) place [])) (range_with_len 0 l.place))

@@ -21,11 +21,11 @@ loop-n-preserved c =
       | then-len-lt-COLOURS+in_ok-put w ↦
           let at : get_or names i [] ≡ w.as_str.result.now
           = message_name_at messages i w.message.result.now w.message.ensures.message ∙ sym w.as_str.ensures in
-          let few : c.len.result < 8 = w.if-len-lt-COLOURS.true in
+          let few : c.len.result < 16 = w.if-len-lt-COLOURS.true in
           w.names-is ∙ w.in_ok-put.ensures.names ∙ ap₂ with_name c.loop-n.invariant (sym at)
           ∙ sym (coloured_more names i low (omega (arith, few, count))) ∙ ap (λ k. coloured (take k names)) next
       | else-len-lt-COLOURS w ↦
-          let full : 8 ≤ c.len.result = omega (arith, w.if-len-lt-COLOURS.false) in
+          let full : 16 ≤ c.len.result = omega (arith, w.if-len-lt-COLOURS.false) in
           w.names-is ∙ c.loop-n.invariant ∙ sym (coloured_stays names i low (omega (arith, full, count)))
           ∙ ap (λ k. coloured (take k names)) next
     ]
