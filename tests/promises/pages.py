@@ -5,10 +5,11 @@
 - A code span that is a path of this repository is one that is there.
 - A block of code that is marked as `rust`, `antt` or `edit` stands in a source, but for blanks; `...` stands for lines left out. The
   first words of each line of a block marked `tree` are functions or types.
-- docs/proof.md names nothing that the sources do not have, and each crate of the kit that they stand on.
+- docs/proof.md names nothing that the sources do not have, and each crate of the kit that they stand on. Each definition of a row of its
+  tables is one that the clauses of the row are made of.
 - docs/testing.md names each script, docs/architecture.md each crate with what its first lines say and what it stands on; crates.txt has
   the same words.
-- Each entry of docs/DECISIONS.md has its reason, what it was chosen over, and a line of the index with its day, in the same order.
+- Each entry of docs/DECISIONS.md has its reason, what it was chosen over, and its day; the page begins with its sections, in their order.
 - README.md names the logic that `dist/waff` was proved in.
 - What docs/guide.md tells of runs by four workers stands in bench/RESULTS.md, and nothing of that is left out.
 """
@@ -17,14 +18,17 @@ import itertools
 import os
 import re
 
-from sources import DEFINITION, NAME, ROOT, TOKEN, TYPE, fields_of, functions_of
+from sources import DEFINITION, NAME, ROOT, TOKEN, TYPE, fields_of, functions_of, words_of
 
 CRATES = ROOT / "crates.txt"
 ARCHITECTURE = ROOT / "docs" / "architecture.md"
 LINK = re.compile(r"\[((?:[^\[\]]|\[[^\[\]]*\]\([^()]*\))*)\]\(([^()\s]+)\)")
 FOLDERS = ("bench", "crates", "dist", "docs", "examples", "tests", "workloads")
 BLOCKS = {"rust": "*/src/*.rt", "antt": "*/specs/*.antt", "edit": "*/must-fail/*.edit"}
-DAY = re.compile(r"- \[(.*)\]\(#.*\), \d{4}-\d\d-\d\d")
+DAY = re.compile(r"\(\d{4}-\d\d-\d\d\)")
+# The columns of a table of theorems: the clauses, and the definitions that they are made of.
+CLAUSES = {"Clause", "The clause"}
+DEFINITIONS = {"Definition", "Its definitions", "What its text is"}
 HEADER = ["| Layer | Crate | What it is for | Stands on |", "|---|---|---|---|"]
 
 
@@ -144,6 +148,20 @@ class Reader:
         for name in kit_crates(self.crates):
             self.tell(name in named, page.name, f"the crate {name} of the kit is not named")
 
+    def read_theorems(self, page):
+        """The clauses of each row are made of its definitions."""
+        made_of = {}
+        for crate in self.crates.values():
+            for name, words in crate.made_of.items():
+                made_of.setdefault(name, set()).update(words)
+        for number, row in theorems_of(page):
+            said = set().union(*(clause_words(page, *link) for link in LINK.findall(row[0])))
+            known = reached(said, made_of)
+            for text, target in LINK.findall(row[1]):
+                name = TOKEN.findall(text)[:1]
+                if target.endswith(".antt") and said:
+                    self.tell(set(name) <= known, f"{page.name}:{number}", f"the clauses are not made of {name}")
+
     def read_scripts(self, page):
         """Each script of the repository stands on the page."""
         named = {span.split()[0].removeprefix("./") for _, line in page.lines for span in TOKEN.findall(line) if span.strip()}
@@ -157,15 +175,19 @@ class Reader:
         self.tell(crate_lines() == CRATES.read_text().splitlines(), CRATES.name, "other words (tests/promises/run write)")
 
     def read_decisions(self, page):
-        entries = re.split(r"^### ", page.path.read_text(), flags=re.M)[1:]
-        for entry in entries:
+        head, *parts = re.split(r"^(?=##+ )", page.path.read_text(), flags=re.M)
+        sections = []
+        for part in parts:
+            mark, title = part.splitlines()[0].split(" ", 1)
+            if mark == "##":
+                sections.append((title, f"#{anchor(title)}"))
+                continue
+            words = part.split()
             for word in ("*Because*", "*Instead of*"):
-                self.tell(word in " ".join(entry.split()), page.name, f"no {word}: {entry.splitlines()[0]}")
-        titles = [entry.splitlines()[0] for entry in entries]
-        listed = [DAY.fullmatch(line) for _, line in page.lines if line.startswith("- [")]
-        named = [line and line.group(1) for line in listed]
-        for title, name in itertools.zip_longest(titles, named):
-            self.tell(title == name, page.name, f"the index has {name} where {title} stands, or no day")
+                self.tell(word in " ".join(words), page.name, f"no {word}: {title}")
+            self.tell(DAY.fullmatch(words[-1]), page.name, f"no day at the end: {title}")
+        named = [link for link in LINK.findall(head) if link[1].startswith("#")]
+        self.tell(named == sections, page.name, f"its first lines name {named} where {sections} stand")
 
     def read_runs(self, guide, results):
         """The rows of the guide: for each log what was told and what ran, under the first tree and under the searched one."""
@@ -179,6 +201,38 @@ class Reader:
     def read_logic(self):
         logic = (ROOT / "dist" / "waff.sums").read_text().splitlines()[0].split()[-1]
         self.tell(f"`{logic}`" in (ROOT / "README.md").read_text(), "README.md", f"the logic {logic} is not named")
+
+
+def theorems_of(page):
+    """The rows of the tables of theorems: the line, and the cells of the clauses and of the definitions."""
+    columns = []
+    for number, line in page.lines:
+        cells = [cell.strip() for cell in line.strip("|").split("|")] if line.startswith("|") else []
+        named = [[at for at, cell in enumerate(cells) if cell in names] for names in (CLAUSES, DEFINITIONS)]
+        if all(named) or not cells:
+            columns = [found[0] for found in named if found]
+        elif columns:
+            yield number, [cells[at] for at in columns]
+
+
+def clause_words(page, text, target):
+    """The words of the clauses that a link names, of all where it names none, and of the file where it is no function's."""
+    path = (page.path.parent / target).resolve()
+    if path.suffix != ".rt":
+        return set()
+    first, *parts = TOKEN.findall(text)
+    found = [f for f in functions_in(path) if f.is_named(first)]
+    said = [part for f in found for part in f.said if part and (not parts or part[0] in parts)]
+    return words_of(" ".join(text for _, text in said) if said else path.read_text())
+
+
+def reached(words, made_of):
+    """These words, and those that the definitions among them are made of."""
+    known, left = set(), set(words)
+    while left:
+        known |= left
+        left = set().union(*(made_of.get(word, set()) for word in left)) - known
+    return known
 
 
 @functools.cache
@@ -275,6 +329,7 @@ def read(crates, count):
     for page in pages.values():
         reader.read_page(page)
     reader.read_proof(pages["docs/proof.md"])
+    reader.read_theorems(pages["docs/proof.md"])
     reader.read_scripts(pages["docs/testing.md"])
     reader.read_crates(pages["docs/architecture.md"])
     reader.read_decisions(pages["docs/DECISIONS.md"])

@@ -1,9 +1,9 @@
 """Reads docs/promises.md and the pages of docs/promises/ against the sources, in both directions.
 
 Each page of a crate has, behind what a person wrote, the rows that the sources give (written.py), and so each public call with a contract,
-each clause of it with the definitions that it is made of, each fact of a type, each law and each wrong body. What a person wrote names
-nothing that is not there: a name in words stands somewhere in the sources, a test is a file, a folder or a function, and a law that picks
-one thing is a public function with an empty body.
+each clause of it with the definitions that it is made of, each fact of a type, each law, and each wrong body with the clause that refuses
+it. What a person wrote names nothing that is not there: a name in words stands somewhere in the sources, a test is a file, a folder or a
+function, and a law that picks one thing is a public function with an empty body.
 """
 import re
 
@@ -106,6 +106,10 @@ class Reader:
         for row in written.rows_of(crate):
             self.tell(not row or row in lines, f"no row {row[:70]}.. (tests/promises/run write)")
         self.read(self.page, written.front_of(crate), [crate])
+        for name in sorted(crate.edits):
+            refused = written.refused(crate, name, written.changed(crate, name))
+            self.tell(refused, f"the wrong body `{name}` names no clause of the function that it changes (# clause: NAME)")
+            self.read_names(refused, [crate])
 
     def read_rest(self):
         """What the sources have and no page does, and pages of no crate."""

@@ -1,10 +1,13 @@
-"""Makes the pages of docs/promises/ out of the contracts: for each crate its calls with their clauses, its laws, the facts of its types
-and its wrong bodies. What a person wrote stands in front of the heading `Contracts`, and stays as it is.
+"""Makes the pages of docs/promises/ out of the contracts: for each crate its calls with their clauses, its laws, the facts of its types,
+and its wrong bodies with the clause that refuses each. What a person wrote stands in front of the heading `Contracts`, and stays as it is.
+
+A wrong body that changes a function of several clauses names the one that refuses it in a line `# clause: NAME`. One that no clause of
+that function refuses says what does in a line `# refused by: WORDS`.
 """
 import functools
 import re
 
-from sources import ROOT
+from sources import FUNCTION, ROOT
 
 FOLDER = ROOT / "docs" / "promises"
 MARK = "## Contracts"
@@ -55,19 +58,42 @@ def types_of(crate):
 def edits_of(crate):
     rows = []
     for name in sorted(crate.edits):
-        path = ROOT / "crates" / crate.name / "must-fail" / f"{name}.edit"
-        rows.append(f"| {link(name, f'must-fail/{name}.edit', crate.name)} | {changed(crate, path.read_text())} |")
-    return ["", "| Wrong body | Of |", "|---|---|", *rows] if rows else []
+        function = changed(crate, name)
+        rows.append(f"| {link(name, f'must-fail/{name}.edit', crate.name)} | {called(function)} | {refused(crate, name, function)} |")
+    return ["", "| Wrong body | Of | Refused by |", "|---|---|---|", *rows] if rows else []
 
 
-def changed(crate, edit):
-    """The function that a wrong body changes, and its file."""
+def changed(crate, name):
+    """The function that a wrong body changes."""
+    edit = edit_of(crate, name)
     file = re.search(r"^file: (.*)$", edit, re.M).group(1).strip()
     first = re.search(r"^old: (.*)$", edit, re.M).group(1)
-    text = (ROOT / "crates" / crate.name / file).read_text()
-    at = text.find(first.strip())
-    names = re.findall(r"^ *(?:pub(?:\([a-z]+\))? )?fn (\w+)", text[:at], re.M)
-    return f"`{names[-1]}` in `{file}`" if at >= 0 and names else f"`{file}`"
+    before = (ROOT / "crates" / crate.name / file).read_text().partition(first.strip())[0]
+    module = file.rpartition("/")[2].removesuffix(".rt")
+    functions = [f for f in crate.functions if f.module == module]
+    return functions[sum(bool(FUNCTION.match(line)) for line in before.splitlines()) - 1]
+
+
+def edit_of(crate, name):
+    return (ROOT / "crates" / crate.name / "must-fail" / f"{name}.edit").read_text()
+
+
+def called(function):
+    return f"`{full_name(function)}` in `src/{function.module}.rt`"
+
+
+def refused(crate, name, function):
+    """What refuses a wrong body: the only clause of the function that it changes, the one that the edit names, or what the edit says."""
+    edit = edit_of(crate, name)
+    by = re.search(r"^# refused by: (.*)$", edit, re.M)
+    if by:
+        return by.group(1)
+    named = re.search(r"^# clause: (\w+)$", edit, re.M)
+    said = [part for part in function.said if part and (not named or part[0] == named.group(1))]
+    if len(said) != 1:
+        return ""
+    text = clause(crate, function.module, *said[0])
+    return "its clause" if text == "an equation" else text
 
 
 def table(what, says, rows):
@@ -75,9 +101,12 @@ def table(what, says, rows):
 
 
 def row(crate, function):
-    name = f"{function.owner}::{function.name}" if function.owner else function.name
     said = [clause(crate, function.module, *part) for part in function.said if part]
-    return f"| {link(name, f'src/{function.module}.rt', crate.name)} | {plain(function.doc)} | {'; '.join(said)} |"
+    return f"| {link(full_name(function), f'src/{function.module}.rt', crate.name)} | {plain(function.doc)} | {'; '.join(said)} |"
+
+
+def full_name(function):
+    return f"{function.owner}::{function.name}" if function.owner else function.name
 
 
 def clause(crate, module, name, text):
