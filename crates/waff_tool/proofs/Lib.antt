@@ -15,6 +15,7 @@ mod OrderLemmas
 mod OwnPlanLaws
 pub mod RankLaws
 mod RankLemmas
+mod RankReadings
 mod ReadAlike
 pub mod RateLaws
 pub mod ReplayRefusals

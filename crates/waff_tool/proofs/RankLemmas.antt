@@ -1,6 +1,6 @@
 -- Files side by side with what they are read as, and the lines of a rank.
 use Rattle.std.proofs.Common.{◌≡◌, ℕ, zero, suc, ◌+◌, ◌<◌, All, List, [], ◌∷◌, ◌++◌, map, take, length, get_or, slice_get, Vec, Global, Option, Some, None, IfSome, Ok, inl, inr, append_assoc, refl, sym, ◌∙◌, ap, subst, arith}
-use Rattle.std.proofs.lemmas.List.{append-nil, get_or-map, length-map, length-take-le, take_more}
+use Rattle.std.proofs.lemmas.List.{append-nil, length-map, length-take-le, take_more}
 use Rattle.std.proofs.lemmas.List.Elements.{All-cons}
 use Rattle.std.proofs.lemmas.Grind.{flat_map-append}
 use Rattle.std.specs.List.{AllZip}
@@ -83,9 +83,6 @@ zip_have R P has (a ∷ xs) (b ∷ ys) are = All-cons P a xs (has a b are.0) (zi
 -- the bytes of files, one by one
 abbrev pub bytes_of : List (Vec ℕ Global) → List (List ℕ)
 bytes_of files = map (λ (file : Vec ℕ Global). file.items) files
-
-pub file_bytes : (files : List (Vec ℕ Global)) (i : ℕ) (file : Vec ℕ Global) → i < length files → file ≡ get_or files i file → file_at (bytes_of files) i ≡ file.items
-file_bytes files i file inside is = get_or-map (λ (f : Vec ℕ Global). f.items) files i file [] inside ∙ ap (λ (f : Vec ℕ Global). f.items) (sym is)
 
 pub bytes_length : (files : List (Vec ℕ Global)) → length (bytes_of files) ≡ length files
 bytes_length files = length-map files (λ (f : Vec ℕ Global). f.items)

@@ -1,6 +1,6 @@
 -- What is printed of several hierarchies that serve one trace.
-use Rattle.std.specs.Prelude.{◌≡◌, ℕ, ◌+◌, ◌<◌, List, [], ◌∷◌, Some, Ok, Err, All, codes, decimal}
-use Rattle.std.specs.Prelude.{length, slice_index_or, take}
+use Rattle.std.specs.Prelude.{◌≡◌, ◌≢◌, ℕ, ◌+◌, ◌<◌, List, [], ◌∷◌, Option, Some, None, IfSome, Result, Ok, Err, All, codes}
+use Rattle.std.specs.Prelude.{decimal, length, slice_index_or, take}
 use Rattle.std.specs.List.{AllZip}
 use Rattle.waff_model.specs.Layout.{Hierarchy, SameSpaces}
 use Rattle.waff_model.specs.Messages.{Arrivals}
@@ -17,7 +17,7 @@ use Rattle.waff_plan.specs.Work.{length_of}
 use Rattle.waff_list.specs.declared.rule.Rule.{Rule}
 use Rattle.waff_plan_text.specs.Lines.{text_of}
 use Rattle.waff_figures.specs.Sweep.{IsListed, quality_fields, quality_names}
-use Rattle.waff_inputs.specs.Inputs.{Accepts, TellsOfFiles}
+use Rattle.waff_inputs.specs.Inputs.{Accepts, RefusesHierarchy, TellsOfFiles}
 use Rattle.waff_inputs.specs.declared.fault.ToolError.{ToolError}
 use Rattle.waff_inputs.specs.declared.fault.ToolError.TheVariants as tool
 use Rattle.waff_tool.specs.Comparison.{kind_field}
@@ -88,6 +88,17 @@ AreRead files layouts = AllZip (λ file layout. hierarchy_of file ≡ Ok layout)
 -- the file of this place, from 0
 abbrev pub file_at : List (List ℕ) → ℕ → List ℕ
 file_at files at = slice_index_or files at []
+
+-- what a file that has this number is read as: the hierarchy that it is, or why it is refused
+abbrev pub IsReading : ℕ → List ℕ → Result Hierarchy ToolError → Type 0
+IsReading number file (Ok layout) = hierarchy_of file ≡ Ok layout
+IsReading number file (Err error) = RefusesHierarchy number file error × (error ≢ tool.Write)
+
+-- what these files are read as, where memory was there for it
+pub record AreReadings (files : List (List ℕ)) (slots : List (Option (Result Hierarchy ToolError))) : Type 0 where
+  pub count : length slots ≡ length files
+  pub each : (at : ℕ) → at < length slots
+      → IfSome (slice_index_or slots at None) (IsReading (at + 1) (file_at files at))
 
 -- bytes that are a hierarchy
 abbrev pub IsHierarchy : List ℕ → Type 0

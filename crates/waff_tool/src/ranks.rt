@@ -12,7 +12,8 @@ ghost use Rattle.waff_plan.specs.Bound.{IsWorkers};
 ghost use Rattle.waff_plan_text.specs.Lines.{Adds, line_text, text_of};
 ghost use Rattle.waff_inputs.specs.Deliveries.{Delivers, Makes};
 ghost use Rattle.waff_inputs.specs.Inputs.{Refuses, TellsOfFiles};
-ghost use Rattle.waff_tool.specs.Ranks.{AreRead, HasSpacesOf, IsRanked, IsRankedAsSwept};
+ghost use Rattle.waff_tool.specs.Ranks.{AreRead, AreReadings, HasSpacesOf, IsRanked, IsRankedAsSwept};
+ghost use Rattle.waff_tool.specs.Ranks.{IsReading, file_at};
 ghost use Rattle.waff_tool.specs.Ranks.{IsRankedOver, IsRankedUnder};
 ghost use Rattle.waff_tool.specs.Ranks.{IsRankText, RankedIsNotRefused, RefusesRank};
 ghost use Rattle.waff_tool.specs.Ranks.{rank_header, rank_row, rank_rows};
@@ -29,6 +30,9 @@ use waff_list::Rule;
 use waff_model::{Kind, Layout, Trace};
 use waff_plan::Planned;
 use waff_plan::unlimited::plan;
+
+/// Hierarchies of which none has so many bytes are read by one thread.
+const LONG: usize = 16 * 1024;
 
 /// What is told of a trace under one of several hierarchies.
 #[derive(Clone, Copy)]
@@ -80,14 +84,18 @@ fn made_rank_text<R: Threads + Sync>(
         (map (λ file. file.items) hierarchies.now) trace.now workers (string_bytes text))
         (RefusesRank (map (λ file. file.items) hierarchies.now) trace.now) result }
 {
-    let layouts = read_hierarchies(alloc, hierarchies)?;
+    let layouts = read_hierarchies(rt, alloc, hierarchies)?;
     let text = text_under_all(rt, alloc, layouts.as_slice(), trace, workers, rule);
     drop(layouts);
     text
 }
 
-/// The hierarchies of these files, in their order.
-fn read_hierarchies(alloc: Global, files: &[Vec<u8>]) -> Result<Vec<Layout>, ToolError>
+/// The hierarchies of these files, in their order, read side by side.
+fn read_hierarchies<R: Threads + Sync>(
+    rt: &R,
+    alloc: Global,
+    files: &[Vec<u8>],
+) -> Result<Vec<Layout>, ToolError>
     requires { length files.now ≤ MAX_RANKED }
     ensures read { IfOk result (λ layouts.
         AreRead (map (λ file. file.items) files.now) layouts.items) }
@@ -95,11 +103,62 @@ fn read_hierarchies(alloc: Global, files: &[Vec<u8>]) -> Result<Vec<Layout>, Too
         → RefusesRank (map (λ file. file.items) files.now) trace_file e) }
     ensures nothing { IfErr result (λ e. e ≢ ToolError.Write) }
 {
-    let mut layouts = Vec::with_capacity(alloc, files.len())?;
-    for file in files {
-        let number = layouts.len() as u8 + 1;
-        let layout = read_numbered(alloc, number, file)?;
-        keep(&mut layouts, layout)?;
+    let mut slots = empty_slots(alloc, files.len())?;
+    let one = move |place: usize, slot: &mut Option<Result<Layout, ToolError>>|
+        requires place { place < length files.now }
+        requires few { length files.now ≤ MAX_RANKED }
+        ensures { IfSome slot.new (IsReading (place + 1)
+            (file_at (map (λ file. file.items) files.entry.now) place)) }
+    { *slot = Some(read_numbered(alloc, place as u8 + 1, &files[place])) };
+    let threads = readers(rt, files);
+    thread::for_each_mut(rt, slots.as_mut_slice(), threads, &one);
+    in_order(alloc, slots)
+}
+
+/// Room for what so many files are read as.
+fn empty_slots(
+    alloc: Global,
+    count: usize,
+) -> Result<Vec<Option<Result<Layout, ToolError>>>, AllocError>
+    ensures { IfOk result (λ slots. length slots.items ≡ count) }
+{
+    let mut slots = Vec::with_capacity(alloc, count)?;
+    for _ in 0..count {
+        slots.push(None)?;
+    }
+    Ok(slots)
+}
+
+/// How many threads read these files.
+fn readers<R: Threads>(rt: &R, files: &[Vec<u8>]) -> usize
+    ensures { 1 ≤ result }
+{
+    if files.iter().any(|file| LONG <= file.len()) {
+        sides(rt, u32::MAX)
+    } else {
+        1
+    }
+}
+
+/// The hierarchies that were read, or why the first that is refused is.
+fn in_order(
+    alloc: Global,
+    slots: Vec<Option<Result<Layout, ToolError>>>,
+) -> Result<Vec<Layout>, ToolError>
+    ensures read { IfOk result (λ layouts. (files : List (List ℕ)) → AreReadings files slots.items
+        → AreRead files layouts.items) }
+    ensures refused { IfErr result (λ e. (files : List (List ℕ)) → AreReadings files slots.items
+        → (trace_file : List ℕ) → RefusesRank files trace_file e) }
+    ensures nothing { IfErr result (λ e. (files : List (List ℕ)) → AreReadings files slots.items
+        → e ≢ ToolError.Write) }
+{
+    let mut layouts = Vec::with_capacity(alloc, slots.len())?;
+    for slot in slots {
+        match slot {
+            Some(Ok(layout)) => keep(&mut layouts, layout)?,
+            Some(Err(error)) => return Err(error),
+            None => return Err(ToolError::Memory),
+        }
     }
     Ok(layouts)
 }

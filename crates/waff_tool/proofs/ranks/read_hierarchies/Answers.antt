@@ -1,61 +1,43 @@
-use Rattle.std.proofs.Common.{◌≡◌, ◌+◌, ◌<◌, ◌≤◌, [], ◌∷◌, ◌++◌, Ok, length, take, arith, sym, ◌∙◌, ap, subst}
-use Rattle.std.proofs.lemmas.List.{length_push, take_all, take_more}
-use Rattle.std.proofs.lemmas.Result.{err_from_is_err_and}
-use Rattle.waff_read.specs.Hierarchies.{hierarchy_of}
-use Rattle.waff_inputs.specs.Inputs.{RefusesHierarchy}
-use Rattle.waff_tool.specs.Ranks.{AreRead, file_at}
-use Rattle.waff_tool.proofs.RankLemmas.{bytes_length, bytes_of, file_bytes, first_refused, read_are, zip_push}
+use Rattle.std.proofs.Common.{◌≡◌, ◌≢◌, ℕ, ◌+◌, ◌++◌, List, None, IfSome, drop, length, take, arith, sym, ◌∙◌, ap, subst}
+use Rattle.std.proofs.Math.Seq.{take-append_seam}
+use Rattle.std.proofs.lemmas.Result.{IfErr-weaker, IfOk-weaker}
+use Rattle.waff_inputs.specs.declared.fault.ToolError.TheVariants as tool
+use Rattle.waff_tool.specs.Ranks.{AreRead, AreReadings, IsReading, RefusesRank, file_at}
+use Rattle.waff_tool.proofs.RankLemmas.{bytes_length, bytes_of}
+use Rattle.waff_tool.proofs.ranks.read_hierarchies.Given as given
 use Rattle.waff_tool.proofs.ranks.read_hierarchies.Goals as goal
 
-pub loop-file-init : goal.loop-file-init
-loop-file-init c =
-    let none = c.in_ok-layouts.ensures.items in
-    record {
-      read = subst (AreRead []) (sym none) tt;
-      many = ap length none;
-    }
-
-pub overflow_cast-number : goal.overflow_cast-number
-overflow_cast-number c =
-    omega (arith, c.len.ensures, c.loop-file.invariant.many, c.loop-file-test.true, c.requires)
-
-pub overflow_add-number : goal.overflow_add-number
-overflow_add-number c =
-    omega (arith, c.len.ensures, c.loop-file.invariant.many, c.loop-file-test.true, c.requires)
-
-pub returns-in_err-layout-clause-refused : goal.returns-in_err-layout-clause-refused
-returns-in_err-layout-clause-refused c =
-    let p = err_from_is_err_and c.from_residual-in_err-layout.result c.from_residual-in_err-layout.ensures.1 in
+-- what the files are read as
+read_as : (g : given.Over) (c : goal.After-in_order g)
+    → AreReadings (bytes_of c.args.files.now)
+    (take c.in_ok-slots.slots.len (c.for_each_mut.new.s ++ drop (length c.for_each_mut.new.s) c.in_ok-slots.slots.items))
+read_as g c =
     let files = bytes_of c.args.files.now in
-    let i = c.loop-file.file-index in
-    let inside : i < length files = subst (λ n. i < n) (sym (bytes_length c.args.files.now)) c.loop-file-test.true in
-    let bytes : file_at files i ≡ c.file-item.result.items = file_bytes c.args.files.now i c.file-item.result c.loop-file-test.true c.file-item.is in
-    let number : c.len.result + 1 ≡ i + 1 = omega (arith, c.len.ensures, c.loop-file.invariant.many) in
-    rw (p.1, p.2)
-    (λ trace_file. first_refused files trace_file i (c.len.result + 1) c.in_err-layout.field-0.0 number inside
-    (read_are (take i files) c.loop-file.layouts.items c.loop-file.invariant.read)
-    (subst (λ b. RefusesHierarchy (c.len.result + 1) b c.in_err-layout.field-0.0) (sym bytes) (rw c.deref.ensures.value at c.in_err-layout.ensures.refused)))
-
-pub loop-file-preserved : goal.loop-file-preserved
-loop-file-preserved c =
-    let files = bytes_of c.args.files.now in
-    let i = c.loop-file.file-index in
-    let inside : i < length files = subst (λ n. i < n) (sym (bytes_length c.args.files.now)) c.loop-file-test.true in
-    let bytes : file_at files i ≡ c.file-item.result.items = file_bytes c.args.files.now i c.file-item.result c.loop-file-test.true c.file-item.is in
-    let layouts = c.loop-file.layouts.items in
-    let items = c.in_ok-keep.ensures in
-    let read : hierarchy_of (file_at files i) ≡ Ok c.in_ok-layout.layout =
-    ap hierarchy_of bytes ∙ (rw c.deref.ensures.value at c.in_ok-layout.ensures.layout) in
-    record {
-      read = subst (λ front. AreRead front c.keep.new.layouts.items) (sym (take_more files i [] inside))
-          (subst (AreRead (take i files ++ file_at files i ∷ [])) (sym items)
-          (zip_push (λ file layout. hierarchy_of file ≡ Ok layout) (take i files) layouts (file_at files i) c.in_ok-layout.layout c.loop-file.invariant.read read));
-      many = ap length items ∙ length_push layouts c.in_ok-layout.layout ∙ ap (λ n. n + 1) c.loop-file.invariant.many;
-    }
+    let made = c.for_each_mut.new.s in
+    let kept = c.for_each_mut.auto.s in
+    let rest = drop (length made) c.in_ok-slots.slots.items in
+    let count : length made ≡ length c.in_ok-slots.slots.items = omega (arith, kept, ap length c.as_mut_slice.ensures.value) in
+    let long : c.in_ok-slots.slots.len ≡ length made = omega (arith, kept, c.as_mut_slice.ensures.len) in
+    let same : take c.in_ok-slots.slots.len (made ++ rest) ≡ made = ap (λ n. take n (made ++ rest)) long ∙ take-append_seam made rest in
+    subst (AreReadings files) (sym same)
+    (record {
+      count = omega (arith, count, c.in_ok-slots.ensures, bytes_length c.args.files.now);
+      each = λ at inside.
+          let change = (c.for_each_mut.ensures at None (omega (arith, kept, inside))).1 in
+          subst (λ slot. IfSome slot (IsReading (at + 1) (file_at files at))) change.left change.call;
+    })
 
 pub returns-clause-read : goal.returns-clause-read
-returns-clause-read c =
-    let files = bytes_of c.args.files.now in
-    let i = c.loop-file.file-index in
-    let over : length files ≤ i = subst (λ n. n ≤ i) (sym (bytes_length c.args.files.now)) c.loop-file-test.false in
-    subst (λ front. AreRead front c.loop-file.layouts.items) (take_all i files over) c.loop-file.invariant.read
+returns-clause-read g c =
+    IfOk-weaker c.in_order.result _ (λ layouts. AreRead (bytes_of c.args.files.now) layouts.items)
+    (λ layouts read. read (bytes_of c.args.files.now) (read_as g c)) c.in_order.ensures.read
+
+pub returns-clause-refused : goal.returns-clause-refused
+returns-clause-refused g c =
+    IfErr-weaker c.in_order.result _ (λ e. (trace_file : List ℕ) → RefusesRank (bytes_of c.args.files.now) trace_file e)
+    (λ e refused. refused (bytes_of c.args.files.now) (read_as g c)) c.in_order.ensures.refused
+
+pub returns-clause-nothing : goal.returns-clause-nothing
+returns-clause-nothing g c =
+    IfErr-weaker c.in_order.result _ (λ e. e ≢ tool.Write)
+    (λ e unwritten. unwritten (bytes_of c.args.files.now) (read_as g c)) c.in_order.ensures.nothing
