@@ -4,3 +4,5 @@ mod Rows
 mod Lying
 mod Ending
 mod Listing
+mod Ones
+mod Calling

@@ -4,3 +4,4 @@ pub mod Places
 pub mod PlaceLaws
 pub mod Named
 pub mod Syncing
+pub mod Calls

@@ -1,6 +1,7 @@
 //! How many operations of a message are one call on files: a range is one.
 
-ghost use Rattle.std.specs.Prelude.{◌+◌, ◌<◌, ◌≤◌, length};
+ghost use Rattle.std.specs.Prelude.{◌≡◌, ◌<◌, ◌↔◌, IsTrue, length};
+ghost use Rattle.waff_run.specs.Calls.{AreAlike, AreOneCall, first_cell};
 
 use crate::places::Places;
 use waff_model::{Cell, Op, Ops, Trace};
@@ -9,8 +10,7 @@ use waff_model::{Cell, Op, Ops, Trace};
 /// side in one file.
 pub(crate) fn call_length(places: &Places, ops: &Ops, from: usize) -> usize
     requires { from < length ops.now }
-    ensures some { 0 < result }
-    ensures within { from + result ≤ length ops.now }
+    ensures { AreOneCall places.now ops.now from result }
 {
     let count = ops.len();
     let first = ops.get(from);
@@ -19,7 +19,7 @@ pub(crate) fn call_length(places: &Places, ops: &Ops, from: usize) -> usize
     for next in from + 1..count {
         let op = ops.get(next);
         let spot = places.spot(first_cell(op));
-        if !is_same_call(first, op) || spot.file != begin.file || spot.at != end {
+        if !are_alike(first, op) || spot.file != begin.file || spot.at != end {
             return next - from;
         }
         end = spot.at + places.bytes();
@@ -28,7 +28,9 @@ pub(crate) fn call_length(places: &Places, ops: &Ops, from: usize) -> usize
 }
 
 /// The cell that an operation names first.
-fn first_cell(op: Op) -> Cell {
+fn first_cell(op: Op) -> Cell
+    ensures { result ≡ first_cell op }
+{
     match op {
         Op::Set { cell, .. }
         | Op::Add { cell, .. }
@@ -39,7 +41,9 @@ fn first_cell(op: Op) -> Cell {
 }
 
 /// Whether both are reads, or sets of one number.
-fn is_same_call(op: Op, other: Op) -> bool {
+fn are_alike(op: Op, other: Op) -> bool
+    ensures { IsTrue result ↔ AreAlike op other }
+{
     match (op, other) {
         (Op::Read { .. }, Op::Read { .. }) => true,
         (Op::Set { value, .. }, Op::Set { value: more, .. }) => value == more,

@@ -1,9 +1,16 @@
-//! What holds of the places of cells. Each law is a function that does nothing and whose contract is the law.
+//! What holds of the places of cells and of what is listed of them. Each law is a function that does nothing and whose contract is the law.
 
-ghost use Rattle.std.specs.Prelude.{ℕ};
+ghost use Rattle.std.specs.Prelude.{ℕ, List};
 ghost use Rattle.waff_model.specs.Layout.{Hierarchy};
+ghost use Rattle.waff_model.specs.Unique.{AtMostOne};
+ghost use Rattle.waff_model.specs.declared.cell.Cell.{Cell};
+ghost use Rattle.waff_model.specs.declared.op.Op.{Op};
+ghost use Rattle.waff_run.specs.Calls.{AreOneCall};
+ghost use Rattle.waff_run.specs.Named.{AreEnds, ListsSpots};
 ghost use Rattle.waff_run.specs.PlaceLaws.{CellsAreApart, CellsLieInFiles, FilesAreApart};
 ghost use Rattle.waff_run.specs.PlaceLaws.{FilesHaveOneOwner, PlacesAreFound};
+ghost use Rattle.waff_run.specs.Places.{Placing};
+ghost use Rattle.waff_run.specs.Syncing.{ListsOnce};
 
 /// Two cells of a layout have no byte in common.
 pub fn cells_are_apart()
@@ -28,4 +35,24 @@ pub fn cells_lie_in_files()
 /// The file for a place of the list of a space's map is told as that one.
 pub fn places_are_found()
     ensures { (layout : Hierarchy) (bytes : ℕ) → PlacesAreFound layout bytes }
+{}
+
+/// The ends of cells in files are one list.
+pub fn ends_are_one()
+    ensures { (placing : Placing) (cells : List Cell) → AtMostOne (AreEnds placing cells) }
+{}
+
+/// The places of cells, each once, in order, are one list.
+pub fn spots_are_one()
+    ensures { (placing : Placing) (cells : List Cell) → AtMostOne (ListsSpots placing cells) }
+{}
+
+/// Numbers, each once, in order, are one list.
+pub fn listed_is_one()
+    ensures { (numbers : List ℕ) → AtMostOne (ListsOnce numbers) }
+{}
+
+/// How many operations from one on are one call is one number.
+pub fn call_is_one()
+    ensures { (placing : Placing) (ops : List Op) (from : ℕ) → AtMostOne (AreOneCall placing ops from) }
 {}
