@@ -7,4 +7,4 @@ pub const VERSION: &str = "0.1.0";
 pub const LONG_VERSION: &str = "\
 0.1.0
 logic: dac8208d650f15bf
-sources: 28968978d50757a8";
+sources: 3ea8dfa117109d62";
