@@ -28,3 +28,31 @@ part() {
     add "$log" "$status" "$@"
     rm -f -- "$log"
 }
+
+# The parts that run side by side: the log, the process and the words of each.
+logs=()
+processes=()
+names=()
+
+# Runs a part beside the others.
+beside() {
+    local log
+    log=$(mktemp) || exit 1
+    "$@" >"$log" 2>&1 &
+    processes+=("$!")
+    logs+=("$log")
+    names+=("$*")
+}
+
+# Waits for the parts that run side by side, and shows each as it was begun.
+all_beside() {
+    local at status
+    for at in "${!processes[@]}"; do
+        wait "${processes[at]}"
+        status=$?
+        echo "${names[at]}:"
+        cat -- "${logs[at]}"
+        add "${logs[at]}" "$status" "${names[at]}"
+        rm -f -- "${logs[at]}"
+    done
+}

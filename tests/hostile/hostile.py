@@ -9,6 +9,7 @@ import subprocess
 import sys
 import tempfile
 import time
+from collections.abc import Callable, Iterable
 
 sys.path.append(os.path.dirname(os.path.dirname(os.path.realpath(__file__))))
 
@@ -92,7 +93,7 @@ class Run:
     stderr: bytes
     seconds: float = dataclasses.field(compare=False)
 
-    def __repr__(self):
+    def __repr__(self) -> str:
         return "status %s, stdout %r, stderr %r" % (self.status, self.stdout[:200], self.stderr[:200])
 
 
@@ -107,21 +108,21 @@ SET_ROOM = 1031
 class Files:
     """A folder of files that words name by a letter."""
 
-    def __init__(self, folder):
+    def __init__(self, folder: str) -> None:
         self.folder = folder
 
-    def name(self, letter):
+    def name(self, letter: str) -> str:
         return os.path.join(self.folder, letter)
 
-    def lay(self, files):
+    def lay(self, files: dict[str, bytes]) -> None:
         for letter, data in files.items():
             with open(self.name(letter), "wb") as file:
                 file.write(data)
 
-    def words(self, line):
+    def words(self, line: str) -> list[str]:
         return [self.name(word[1]) if word.startswith("{") else word for word in line.split()]
 
-    def with_plans(self, files):
+    def with_plans(self, files: dict[str, bytes]) -> dict[str, bytes]:
         """The files with the plans that the program prints of them."""
         self.lay(files)
         made = {"P": run(self.words("plan {H} {T}")).stdout, "K": run(self.words("plan {H} {T} --workers 2")).stdout}
@@ -130,16 +131,16 @@ class Files:
         return {**files, **made}
 
 
-def letters(line):
+def letters(line: str) -> list[str]:
     return [word[1] for word in line.split() if word.startswith("{")]
 
 
-def processor_seconds():
+def processor_seconds() -> float:
     used = resource.getrusage(resource.RUSAGE_CHILDREN)
     return used.ru_utime + used.ru_stime
 
 
-def run(words, stdin=b"", before=()):
+def run(words: Iterable[str], stdin: bytes = b"", before: Iterable[str] = ()) -> Run:
     """Runs the program with the words; `before` are words that start it."""
     begin = processor_seconds()
     command = [*before, PROGRAM, *words]
@@ -150,34 +151,35 @@ def run(words, stdin=b"", before=()):
     return Run(done.returncode, done.stdout, done.stderr, processor_seconds() - begin)
 
 
-def shell(redirections):
+def shell(redirections: str) -> tuple[str, ...]:
     """The words that start a program with redirections of the shell."""
     return "sh", "-c", 'exec "$@" ' + redirections, "sh"
 
 
-def under(words, limit, stdin=b""):
+def under(words: Iterable[str], limit: int, stdin: bytes = b"") -> Run:
     """A run under a limit of its address space. A status of 127 says that the system did not start it."""
     return run(words, stdin, before=("prlimit", "--core=0", "--as=%d" % limit))
 
 
-def is_told(line):
+def is_told(line: str | None) -> bool:
     """Whether all that a command lacks is told to it. The stack of an explanation grows beyond what a program starts with, and
     where there is no room for that the system ends the program."""
     return line is None or not line.startswith("explain")
 
 
-def least_limit(words, right, stdin=b""):
+def least_limit(words: Iterable[str], right: Run, stdin: bytes = b"") -> int:
     """About the least limit of the address space under which the run is right."""
     return next(it for it in range(4 << 20, 1 << 34, 1 << 18) if under(words, it, stdin) == right)
 
 
-def piped(words, stdin, wanted, pause):
+def piped(words: Iterable[str], stdin: bytes, wanted: int | None, pause: float) -> Run:
     """A run into a narrow pipe, of which `wanted` bytes are read, all where it is None; it is closed then."""
     begin = processor_seconds()
     reader, writer = os.pipe()
     fcntl.fcntl(writer, SET_ROOM, ROOM)
     with subprocess.Popen([PROGRAM, *words], stdin=subprocess.PIPE, stdout=writer, stderr=subprocess.PIPE) as process:
         os.close(writer)
+        assert process.stdin and process.stderr
         process.stdin.write(stdin)
         process.stdin.close()
         taken = b""
@@ -193,7 +195,7 @@ def piped(words, stdin, wanted, pause):
     return Run(status, taken, told, processor_seconds() - begin)
 
 
-def faults_of(run):
+def faults_of(run: Run) -> list[str]:
     """What is wrong with how a run on small files ended, whatever they held. Its words were right."""
     if run.status is None:
         return ["it hangs"]
@@ -215,7 +217,7 @@ def faults_of(run):
     return faults
 
 
-def faults_of_explanation(run, told):
+def faults_of_explanation(run: Run, told: Run | None) -> list[str]:
     """What is wrong with how an explanation ended; `told` is the run of a command that looks at the same files, or None."""
     if run.status is None:
         return ["it hangs"]
@@ -242,23 +244,23 @@ def faults_of_explanation(run, told):
     return faults
 
 
-def read(*name):
+def read(*name: str) -> bytes:
     """A file of this repository."""
     with open(os.path.join(ROOT, *name), "rb") as file:
         return file.read()
 
 
-def trace_of(name):
+def trace_of(name: str) -> bytes:
     """A sample trace by its name."""
     return CLIENTS if name == "clients" else read("examples", name)
 
 
-def samples(trace="X1.csv"):
+def samples(trace: str = "X1.csv") -> dict[str, bytes]:
     """The sample files by the letters that words name them with."""
     return {"H": read("examples", "H1.toml"), "C": read("examples", "C1.toml"), "T": trace_of(trace)}
 
 
-def known_words():
+def known_words() -> tuple[str, ...]:
     """The words of each command that the program knows: there are some of each, but for runs, which take their time and tell what they
     measure: tests/runs has theirs."""
     without = set(common.commands(PROGRAM)) - {"run"} - {line.split()[0] for line in WORDS}
@@ -267,11 +269,11 @@ def known_words():
     return WORDS
 
 
-def scratch():
+def scratch() -> tempfile.TemporaryDirectory[str]:
     return tempfile.TemporaryDirectory(prefix="waff-hostile-")
 
 
-def words_given(about, *options):
+def words_given(about: str, *options: tuple[str, Callable[[str], object], object, str]) -> argparse.Namespace:
     """The arguments of a script. Of each the name, the type, the value where it is left out, and what it is for."""
     parser = argparse.ArgumentParser(description=about)
     for name, kind, value, text in options:
@@ -282,7 +284,7 @@ def words_given(about, *options):
     return parser.parse_args()
 
 
-def arguments(about, *options):
+def arguments(about: str, *options: tuple[str, Callable[[str], object], object, str]) -> argparse.Namespace:
     """The arguments of a script that runs the program."""
     global PROGRAM
     given = words_given(about, *options)

@@ -199,7 +199,7 @@ class Reader:
         self.tell(shown == told, guide.name, f"its figures of runs are not those of {results.name}: {told}")
 
     def read_logic(self):
-        logic = (ROOT / "dist" / "waff.sums").read_text().splitlines()[0].split()[-1]
+        logic = re.search(r"^logic: (\w+)$", (ROOT / "crates/waff/src/version.rt").read_text(), re.M)[1]
         self.tell(f"`{logic}`" in (ROOT / "README.md").read_text(), "README.md", f"the logic {logic} is not named")
 
 
@@ -323,8 +323,7 @@ def rows_of(page, first):
 def read(crates, count):
     """Reads all pages, and counts the names and links that it finds and those that it misses."""
     reader = Reader(crates, count)
-    folders = [*(ROOT / folder for folder in FOLDERS), ROOT / "docs" / "promises"]
-    paths = [*ROOT.glob("*.md"), *(path for folder in folders for path in folder.glob("*.md"))]
+    paths = [*ROOT.glob("*.md"), *(path for folder in FOLDERS for path in (ROOT / folder).glob("*.md"))]
     pages = {page.name: page for page in map(Page, sorted(paths))}
     for page in pages.values():
         reader.read_page(page)

@@ -1,20 +1,18 @@
-"""Reads docs/promises.md and the pages of docs/promises/ against the sources, in both directions.
+"""Reads docs/promises.md, and what stands at the head of each crate (`//!` of its `src/lib.rt`), against the sources.
 
-Each page of a crate has, behind what a person wrote, the rows that the sources give (written.py), and so each public call with a contract,
-each clause of it with the definitions that it is made of, each fact of a type, each law, and each wrong body with the clause that refuses
-it. What a person wrote names nothing that is not there: a name in words stands somewhere in the sources, a test is a file, a folder or a
-function, and a law that picks one thing is a public function with an empty body.
+What stands there names nothing that is not there: a name in words stands somewhere in the sources, a test is a file, a folder or a function,
+and a law that picks one thing is a public function with an empty body. Each wrong body changes a function that is there, and names a clause
+of it that refuses it: where it has several in a line `# clause: NAME`, and where none of that function does in a line `# refused by: WORDS`.
 """
 import re
 
-import written
-from sources import NAME, ROOT, TOKEN
+from sources import FUNCTION, NAME, ROOT, TOKEN
 
 PAGE = ROOT / "docs" / "promises.md"
 
 
 class Reader:
-    """Reads pages, and counts what it finds and what it misses."""
+    """Reads what a person wrote, and counts what it finds and what it misses."""
 
     def __init__(self, crates, count):
         self.crates = crates
@@ -82,7 +80,7 @@ class Reader:
 
     def has_path(self, name, among):
         name = name.split()[0]
-        if name in ("must-fail/", "specs/") or (ROOT / name).exists():
+        if name in ("must-fail/", "proofs/", "specs/") or (ROOT / name).exists():
             return True
         first, _, rest = name.partition("/")
         if first in self.crates:
@@ -97,41 +95,40 @@ class Reader:
                 self.tell(has, f"no test `{name}` in `{file}`")
 
     def read_crate(self, crate):
-        """The page of a crate: what a person wrote, and all that the sources have."""
-        self.page, self.line = f"promises/{crate.name}.md", 0
-        path = written.FOLDER / f"{crate.name}.md"
-        text = path.read_text() if path.exists() else ""
-        self.tell(text == written.page_of(crate), "other rows than the sources have (tests/promises/run write)")
-        lines = set(text.splitlines())
-        for row in written.rows_of(crate):
-            self.tell(not row or row in lines, f"no row {row[:70]}.. (tests/promises/run write)")
-        self.read(self.page, written.front_of(crate), [crate])
+        """The head of a crate, and its wrong bodies."""
+        self.read(f"crates/{crate.name}/src/lib.rt", crate.head, [crate])
         for name in sorted(crate.edits):
-            refused = written.refused(crate, name, written.changed(crate, name))
-            self.tell(refused, f"the wrong body `{name}` names no clause of the function that it changes (# clause: NAME)")
-            self.read_names(refused, [crate])
+            self.page, self.line = f"crates/{crate.name}/must-fail/{name}.edit", 0
+            edit = edit_of(crate, name)
+            by = re.search(r"^# refused by: (.*)$", edit, re.M)
+            self.tell(by or is_refused(crate, edit), "names no clause of the function that it changes (# clause: NAME)")
+            self.read_names(by[1] if by else "", [crate])
 
-    def read_rest(self):
-        """What the sources have and no page does, and pages of no crate."""
-        self.line = "end"
-        for crate in self.crates.values():
-            path = written.FOLDER / f"{crate.name}.md"
-            shown = set(TOKEN.findall(path.read_text())) if path.exists() else set()
-            for kind, names in (("wrong body", crate.edits), ("law", crate.laws)):
-                for name in sorted(names):
-                    self.tell(name in shown, f"no page has the {kind} `{name}` of {crate.name}")
-        for path in sorted(written.FOLDER.glob("*.md")):
-            self.tell(path.stem in self.crates, f"{path.name} is of no crate")
+
+def edit_of(crate, name):
+    return (ROOT / "crates" / crate.name / "must-fail" / f"{name}.edit").read_text()
+
+
+def changed(crate, edit):
+    """The function that a wrong body changes; None where there is none."""
+    file = re.search(r"^file: (.*)$", edit, re.M).group(1).strip()
+    first = re.search(r"^old: (.*)$", edit, re.M).group(1)
+    before, found, _ = (ROOT / "crates" / crate.name / file).read_text().partition(first.strip())
+    module = file.rpartition("/")[2].removesuffix(".rt")
+    functions = [f for f in crate.functions if f.module == module]
+    return functions[sum(bool(FUNCTION.match(line)) for line in before.splitlines()) - 1] if found else None
+
+
+def is_refused(crate, edit):
+    """Whether a wrong body has a clause that refuses it: the only one of the function that it changes, or the one that it names."""
+    function = changed(crate, edit)
+    named = re.search(r"^# clause: (\w+)$", edit, re.M)
+    return function and sum(bool(part and (not named or part[0] == named.group(1))) for part in function.said) == 1
 
 
 def read(crates, count):
-    """Reads the pages, and counts what it finds and what it misses."""
+    """Reads the page and the heads, and counts what it finds and what it misses."""
     reader = Reader(crates, count)
     reader.read(PAGE.name, PAGE.read_text(), list(crates.values()))
-    links = PAGE.read_text()
-    for crate in written.crates_of_page(crates):
+    for crate in crates.values():
         reader.read_crate(crate)
-        reader.page = PAGE.name
-        reader.tell(f"(promises/{crate.name}.md)" in links, f"no link to the page of {crate.name}")
-    reader.page = PAGE.name
-    reader.read_rest()

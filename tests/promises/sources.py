@@ -10,12 +10,6 @@ FUNCTION = re.compile(r"^( *)(pub(?:\([a-z]+\))? )?(?:const |unsafe )*fn (\w+)(.
 CLAUSE = re.compile(r"^ +ensures\*? (\w+) \{")
 ENSURES = re.compile(r"^ +ensures\*? (?:(\w+) )?\{")
 ENDS = re.compile(r"^ +(?:requires|decreases)\b|^ *(?://.*)?$")
-IMPORT = re.compile(r"^ *ghost use Rattle\.(waff\w*)\.specs\.(\w+)(?:\.\{([^}]*)\}| as (\w+));", re.M)
-FACT = re.compile(r"^    (?:pub )?ghost (\w+)(?: = |: )\{(.*?)(?:\};?$|\} by|\},$)", re.M | re.S)
-HOLDER = re.compile(
-    r"^(?:((?:///[^\n]*\n)*)(?:#\[[^\n]*\n)*pub (?:struct|enum) (\w+)|impl(?:<[^>]*>)? (?:fmt::Display|Model) for (\w+))", re.M
-)
-SHOWN = re.compile(r"^pub mod (\w+);|^pub use (?:crate::)?(\w+)::(?:\{([^}]*)\}|(\w+))", re.M)
 IMPL = re.compile(r"^ *impl(?:<[^>]*>)? (?:.* for )?&?(\w+)")
 OUTPUT = re.compile(r"^ +ghost output\b")
 GHOST = re.compile(r"^ +ghost \w+ =")
@@ -28,16 +22,13 @@ EQUATION = re.compile(r"^(?:(?:abbrev|unfoldable|record|data|pub) )*([A-Za-z_]\w
 
 
 class Function:
-    """A function of a crate, with the type or the module that it belongs to, what is said of it, the names of its clauses and the words
-    in them. `said` has for each clause its name, empty where it has none, and its text."""
+    """A function of a crate, with the type or the module that it belongs to, the names of its clauses and the words in them. `said` has for each clause its name, empty where it has none, and its text."""
 
-    def __init__(self, name, owner, module, doc=""):
+    def __init__(self, name, owner, module):
         self.name = name
         self.owner = owner
         self.module = module
-        self.doc = doc
         self.is_law = False
-        self.is_open = False
         self.clauses = set()
         self.words = set()
         self.said = []
@@ -61,11 +52,11 @@ class Crate:
         self.types = {name for path in sources for name in TYPE.findall(texts[path])}
         self.words = {name for path in specs for name in DEFINITION.findall(texts[path])}
         self.edits = {path.stem for path in (folder / "must-fail").glob("*.edit")}
-        self.names = {name for text in texts.values() for name in re.findall(r"\w+", text)}
+        # What stands at the head of the crate names nothing by itself.
+        self.head = "\n".join(line[4:] for line in texts.get(folder / "src" / "lib.rt", "").splitlines() if line.startswith("//!"))
+        self.names = {name for text in texts.values() for name in re.findall(r"\w+", re.sub(r"^//!.*", "", text, flags=re.M))}
+        self.names |= {path.stem for path in (folder / "proofs").glob("*.antt")}
         self.functions = [f for path in sources for f in functions_of(path.stem, texts[path])]
-        self.facts = [fact for path in sources for fact in facts_of(path.stem, texts[path])]
-        self.imports = {path.stem: imports_of(texts[path]) for path in sources}
-        self.shown = shown_of(texts.get(folder / "src" / "lib.rt", ""))
         # The words that stand in each definition.
         self.made_of = {}
         for path in specs:
@@ -80,7 +71,7 @@ class Crate:
 
 def functions_of(module, text):
     """The functions of a file, as rt fmt lays them out."""
-    owner, has_output, ghosts, found, head, doc = None, False, set(), [], None, []
+    owner, has_output, ghosts, found, head = None, False, set(), [], None
     for line in text.splitlines():
         if line.startswith("impl"):
             owner, has_output, ghosts = IMPL.match(line).group(1), False, set()
@@ -92,12 +83,10 @@ def functions_of(module, text):
         start = FUNCTION.match(line)
         if start:
             indent, visibility, name, head = start.groups()
-            found.append(Function(name, owner, module, " ".join(doc)))
-            found[-1].is_open = visibility == "pub "
+            found.append(Function(name, owner, module))
             if has_output and owner:
                 found[-1].clauses.add("output")
             found[-1].words |= ghosts
-        doc = doc_after(doc, line)
         if head is None:
             continue
         found[-1].words |= words_of(line)
@@ -115,14 +104,6 @@ def words_of(text):
     return set(re.findall(r"\w+", text))
 
 
-def doc_after(doc, line):
-    """What is said of the item that comes, after one line more."""
-    said = line.strip()
-    if said.startswith("///"):
-        return doc + [said[3:].strip()]
-    return doc if said.startswith("#[") else []
-
-
 def read_clause(function, line):
     """Adds a line of the head of a function to what its clauses say."""
     begun = ENSURES.match(line)
@@ -133,39 +114,6 @@ def read_clause(function, line):
     elif function.said and function.said[-1]:
         name, text = function.said[-1]
         function.said[-1] = (name, f"{text}\n{line}")
-
-
-def facts_of(module, text):
-    """What types promise of their values: for each its module, its name, what is said of it, and its facts with their texts."""
-    heads = list(HOLDER.finditer(text))
-    docs = {}
-    for head in heads:
-        end = text.find("\n}", head.end())
-        name = head.group(2) or head.group(3)
-        if head.group(2):
-            docs[name] = " ".join(line[3:].strip() for line in head.group(1).splitlines())
-        facts = [(fact, said) for fact, said in FACT.findall(text[head.start():end + 2]) if fact not in ("Value", "view")]
-        if facts and name in docs:
-            yield module, name, docs[name], facts
-
-
-def imports_of(text):
-    """The definitions that a file names, each with its crate and the file where it stands; a file by another name of its own."""
-    found = {}
-    for crate, module, names, other in IMPORT.findall(text):
-        for name in filter(None, re.split(r",\s*", names.strip())):
-            found[name] = (crate, module)
-        if other:
-            found[f"{other}."] = (crate, module)
-    return found
-
-
-def shown_of(text):
-    """The modules and the names that a crate shows to those above it."""
-    shown = set()
-    for module, _, names, name in SHOWN.findall(text):
-        shown |= {module, name, *re.split(r",\s*", names)}
-    return shown - {""}
 
 
 def definitions_of(text):

@@ -307,6 +307,12 @@ class World:
         """The cells of a message, each once, in their order."""
         return sorted(set(cells_of(self.messages[message])), key=self.place)
 
+    def written(self, message: int) -> set[Cell]:
+        """The cells that a message writes."""
+        ops = self.messages[message].ops
+        found = {cell for verb, cell, _ in ops if verb != "read"}
+        return found | {other for verb, _, other in ops if verb == "swap" and isinstance(other, tuple)}
+
 
 def cells_of(message: Message) -> list[Cell]:
     found = [cell for _, cell, _ in message.ops]
@@ -535,12 +541,23 @@ def limits_text(world: World, counts: list[int], rule: str) -> str:
     ends, works = world.ends(), world.works()
     client = max(world.all, key=lambda m: ends[m], default=None)
     used: Counter[Cell] = Counter()
+    written: Counter[Cell] = Counter()
+    read: dict[Cell, int] = {}
     for m in world.all:
-        used.update({cell: world.messages[m].cost for cell in world.footprint(m)})
+        cost, own = world.messages[m].cost, world.written(m)
+        for it in world.footprint(m):
+            used[it] += cost
+            if it in own:
+                written[it] += cost
+            else:
+                read[it] = max(read.get(it, 0), cost)
     cell = min(used, key=lambda it: (-used[it], world.place(it)), default=None)
+    shared = {it: written[it] + read.get(it, 0) for it in used}
+    of_writes = min(shared, key=lambda it: (-shared[it], world.place(it)), default=None)
     affinity = max(range(len(works)), key=lambda a: works[a])
     found: list[tuple[str, int | None, int, str]] = [("work", k, -(-world.total // k), "-") for k in counts]
     found.append(("clients", None, max(ends, default=0), "-" if client is None else world.messages[client].client or "-"))
+    found.append(("writes", None, shared[of_writes] if of_writes else 0, "{}:{}".format(*of_writes) if of_writes else "-"))
     found.append(("data", None, used[cell] if cell else 0, "{}:{}".format(*cell) if cell else "-"))
     found.append(("tree", None, works[affinity], world.tree.names[affinity] if world.messages else "-"))
     found.append(("order", None, plan_of(world, None).length(), "-"))
@@ -641,22 +658,24 @@ def where_text(plan: Plan, by: str | None, with_figures: bool) -> str:
 
 
 def why_text(world: World, by_names: bool) -> str:
-    """Why messages run above the owner of their first cell: for each kind the first of its messages, with the two cells."""
+    """Why messages run in affinities below which others lie: for each kind the first of its messages, with the two cells that lift it so
+    high, or the first alone where its owner is the affinity."""
     tree = world.tree
     kinds: dict[tuple[str, ...], list[int]] = {}
-    cells: dict[int, tuple[Cell, Cell]] = {}
+    cells: dict[int, list[Cell]] = {}
     for m in world.all:
         affinity, footprint = world.affinities[m], world.footprint(m)
         first = footprint[0]
         other = next(it for it in footprint if tree.lowest({tree.owner(*first), tree.owner(*it)}) == affinity)
-        if affinity != tree.owner(*first):
-            cells[m] = first, other
+        if affinity in tree.parents:
+            alone = affinity == tree.owner(*first)
+            cells[m] = [first] if alone else [first, other]
             name = [world.messages[m].name] if by_names else []
-            kind = tree.names[affinity], *name, tree.names[tree.owner(*first)], tree.names[tree.owner(*other)]
+            kind = tree.names[affinity], *name, tree.names[tree.owner(*first)], "-" if alone else tree.names[tree.owner(*other)]
             kinds.setdefault(kind, []).append(m)
     rows = [f"affinity,{'name,' if by_names else ''}first,second,messages,cost,message,cell,other"]
     for kind, found in sorted(kinds.items(), key=lambda it: (-world.cost(it[1]), it[1][0])):
-        told = ["{}:{}".format(*cell) for cell in cells[found[0]]]
+        told = [*("{}:{}".format(*cell) for cell in cells[found[0]]), "-"][:2]
         rows.append(",".join([*kind, str(len(found)), str(world.cost(found)), str(found[0] + 1), *told]))
     return lines(rows)
 

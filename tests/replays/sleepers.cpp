@@ -6,12 +6,11 @@
 // crates/waff_board, and of the kit's Parker. A message needs the messages of a graph, which stands for any tree. Left out is what
 // only delays: rests, and looks beyond the first. So is what messages do, which is proved.
 //
-// A worker at `run` is inside the gate of its message, and may stay there. A state is wrong where no worker can go on and a message
-// is not done, or where all that can go on are inside gates and a worker sleeps though its message, or the next one, can run. A run
-// that goes on for ever shows as a state that leads back to itself.
+// A worker at `run` is inside the gate of its message, and may stay there. It sleeps in vain where its message, or the next one, can
+// run. tests/interleavings.hpp says which states are wrong.
 //
-// The protocol has to have no wrong state in any graph of a few messages, and each wrong protocol has to have one. States are told
-// apart by a hash of 63 bits. Prints a line for each search that fails, and last 'N passed, M failed'.
+// The protocol has to have no wrong state in any graph of a few messages, and each wrong protocol has to have one. Prints a line for
+// each search that fails, and last 'N passed, M failed'.
 
 #include <cstdint>
 #include <cstdio>
@@ -20,7 +19,11 @@
 #include <utility>
 #include <vector>
 
+#include "../interleavings.hpp"
+
 namespace {
+
+using namespace interleavings;
 
 // What workers do, and what they leave out or exchange where the protocol is a wrong one.
 struct Protocol {
@@ -91,6 +94,8 @@ uint8_t bit(int n) { return uint8_t(1u << n); }
 
 class Replay {
 public:
+    using State = ::State;
+
     Replay(Graph graph, int workers, int looks, Protocol protocol, bool late)
         : graph_(std::move(graph)), workers_(workers), looks_(looks), protocol_(protocol), late_(late) {}
 
@@ -101,7 +106,9 @@ public:
         return state;
     }
 
-    int workers() const { return workers_; }
+    int moves() const { return workers_; }
+
+    static bool is_in_gate(const State& state, int worker) { return state.workers[worker].at == RUN; }
 
     // The next access of a worker. False where it has none.
     bool step(State& state, int me) const;
@@ -414,107 +421,6 @@ bool Replay::step(State& state, int me) const {
     }
 }
 
-// The states that were met, by their hashes, and which of them lie on the way to where the search is.
-class Met {
-public:
-    Met() : places_(1 << 12) {}
-
-    size_t count() const { return count_; }
-
-    // Whether the state is new. It then lies on the way.
-    bool add(uint64_t hash) {
-        if (count_ * 2 > places_.size()) grow();
-        uint64_t& place = find(hash);
-        if (place != 0) return false;
-        place = hash | ON_THE_WAY;
-        count_++;
-        return true;
-    }
-
-    bool is_on_the_way(uint64_t hash) { return find(hash) & ON_THE_WAY; }
-    void leave(uint64_t hash) { find(hash) &= ~ON_THE_WAY; }
-
-private:
-    static constexpr uint64_t ON_THE_WAY = 1;
-
-    uint64_t& find(uint64_t hash) {
-        size_t at = size_t(hash >> 1) & (places_.size() - 1);
-        while (places_[at] != 0 && (places_[at] | ON_THE_WAY) != (hash | ON_THE_WAY)) at = (at + 1) & (places_.size() - 1);
-        return places_[at];
-    }
-
-    void grow() {
-        std::vector<uint64_t> old(places_.size() * 2);
-        old.swap(places_);
-        for (uint64_t place : old)
-            if (place != 0) find(place) = place;
-    }
-
-    std::vector<uint64_t> places_;
-    size_t count_ = 0;
-};
-
-// A hash that is even, and not 0.
-uint64_t hash_of(const State& state) {
-    unsigned char bytes[sizeof(State)];
-    std::memcpy(bytes, &state, sizeof bytes);
-    uint64_t one = 0x9e3779b97f4a7c15, other = 0xc2b2ae3d27d4eb4f;
-    for (unsigned char byte : bytes) {
-        one = (one ^ byte) * 0x100000001b3;
-        other = (other + byte) * 0x9ddfea08eb382d69;
-        other ^= other >> 29;
-    }
-    one ^= one >> 32;
-    one = (one * 0xd6e8feb86659fd93) ^ other;
-    one = (one ^ (one >> 31)) & ~uint64_t(1);
-    return one != 0 ? one : 2;
-}
-
-enum Fault { NONE, STUCK, SLEEPS_IN_VAIN, RUNS_FOR_EVER };
-
-const char* const FAULTS[] = {"no fault", "nobody goes on", "a worker sleeps in vain", "a run has no end"};
-
-struct Found {
-    Fault fault = NONE;
-    size_t states = 0;
-};
-
-// Goes through all states that the workers reach, until one is wrong.
-Found search(const Replay& replay) {
-    struct Way {
-        State state;
-        uint64_t hash;
-        int next;       // the worker whose step is to be tried
-        bool goes_on;   // whether a worker can go on
-        bool in_gates;  // whether all that can are inside gates
-    };
-    Met met;
-    std::vector<Way> way;
-    auto enter = [&](const State& state, uint64_t hash) { way.push_back({state, hash, 0, false, true}); };
-    State first = replay.first();
-    met.add(hash_of(first));
-    enter(first, hash_of(first));
-    while (!way.empty()) {
-        Way& here = way.back();
-        if (here.next == replay.workers()) {
-            if (!here.goes_on && !replay.is_over(here.state)) return {STUCK, met.count()};
-            if (here.goes_on && here.in_gates && replay.sleeps_in_vain(here.state)) return {SLEEPS_IN_VAIN, met.count()};
-            met.leave(here.hash);
-            way.pop_back();
-            continue;
-        }
-        int me = here.next++;
-        State state = here.state;
-        if (!replay.step(state, me)) continue;
-        here.goes_on = true;
-        if (here.state.workers[me].at != RUN) here.in_gates = false;
-        uint64_t hash = hash_of(state);
-        if (met.add(hash)) enter(state, hash);
-        else if (met.is_on_the_way(hash)) return {RUNS_FOR_EVER, met.count()};
-    }
-    return {NONE, met.count()};
-}
-
 // All graphs of so many messages, in which each needs any of those before it.
 std::vector<Graph> graphs_of(int messages) {
     std::vector<Graph> graphs;
@@ -528,17 +434,6 @@ std::vector<Graph> graphs_of(int messages) {
         graphs.push_back(graph);
     }
     return graphs;
-}
-
-int passed = 0, failed = 0;
-
-void count(bool good, const std::string& name, const Found& found) {
-    if (good) {
-        passed++;
-        return;
-    }
-    failed++;
-    std::printf("FAILED %s: %s after %zu states\n", name.c_str(), FAULTS[found.fault], found.states);
 }
 
 // The protocol has no wrong state in these graphs.
@@ -629,6 +524,5 @@ int main(int count, char** words) {
     small();
     wrong();
     if (all) large();
-    std::printf("%d passed, %d failed\n", passed, failed);
-    return failed == 0 ? 0 : 1;
+    return end();
 }

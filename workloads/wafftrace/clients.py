@@ -12,6 +12,11 @@ from .prices import keeping_thinks
 
 # The bytes of a name that is no client.
 NONE = "-"
+# What to do where there is one alone.
+ONE_CLIENT = (
+    "one client asks for one thing after another, and no tree changes that: record what runs at the same time, as `strace -f` of a shell"
+    " that starts several programs, or of a server (-p) and its clients"
+)
 
 
 def kind_of(asked: Namespace) -> str | None:

@@ -5,7 +5,7 @@ import re
 from argparse import Namespace
 from collections.abc import Iterator, Sequence
 
-from . import clients, limits
+from . import clients, limits, lists
 from .logs import rows_of, shown, tell
 from .traces import LINES, NAME, PART, Opened, cells, opened, record_of
 
@@ -82,7 +82,10 @@ class Counts:
     def __init__(self, called: str, version: int) -> None:
         self.called = called
         self.version = version
-        self.most_ops = limits.OPS if version == 3 else limits.EARLIER_OPS
+        self.most_ops = limits.OPS if version > 2 else limits.EARLIER_OPS
+        # Of lists: how many messages have one, the pieces of all, the most of one; and when messages are issued, as recorded and at once.
+        self.waiting = self.pieces = self.longest = 0
+        self.issues, self.at_once = lists.Issues(), lists.Issues()
         self.operations = self.last = self.think = 0
         self.over_ops = self.over_cost = self.over_release = self.over_think = 0
         self.touched: dict[str, Touched] = collections.defaultdict(Touched)
@@ -149,7 +152,23 @@ class Counts:
         self.over_think += above(thinks, limits.THINK)
         self.think += sum(thinks)
         self.clients.add(columns[3], costs)
+        if self.version == 4:
+            self.of_lists(columns[3], costs, releases, thinks, columns[5])
+            return
         self.of_clients(columns[3], costs, releases, thinks)
+
+    def of_lists(self, names: Sequence[str], costs: list[int], releases: list[int], thinks: list[int], after: Sequence[str]) -> None:
+        """Takes when messages start that wait for others too."""
+        for client, cost, release, think, it in zip(names, costs, releases, thinks, after, strict=True):
+            if it:
+                count = it.count(" ") + 1
+                self.waiting, self.pieces, self.longest = self.waiting + 1, self.pieces + count, max(self.longest, count)
+            self.at_once.next(cost, 0, client, 0, lists.without_gaps(it))
+            start = self.issues.next(cost, release, client, think, it)
+            self.last = max(self.last, start)
+            if client != clients.NONE:
+                self.begun.setdefault(client, start)
+                self.ends[client] = start + cost
 
     def of_clients(self, names: Sequence[str], costs: list[int], releases: list[int], thinks: list[int]) -> None:
         """Takes when the messages of these clients start."""
@@ -181,7 +200,7 @@ def stats(asked: Namespace) -> str:
     messages, cost = found.names.counts.total(), sum(found.names.costs.values())
     has_clients = bool(found.begun)
     spaces = {space: found.touched[space].count() for space in sorted(found.touched)}
-    most = limits.MESSAGES if version == 3 else limits.EARLIER_MESSAGES
+    most = limits.MESSAGES if version > 2 else limits.EARLIER_MESSAGES
     lines = [
         f"messages,{messages}",
         f"operations,{found.operations}",
@@ -194,7 +213,7 @@ def stats(asked: Namespace) -> str:
         f"over-cost,{found.over_cost}",
         f"over-release,{found.over_release}",
     ]
-    if version == 3:
+    if version > 2:
         lines += [
             f"over-all-operations,{max(0, found.operations - limits.ALL_OPS)}",
             f"over-think,{found.over_think}",
@@ -202,8 +221,17 @@ def stats(asked: Namespace) -> str:
             f"clients-at-once,{clients.most_at_once((found.begun[it], found.ends[it]) for it in found.begun)}",
             f"think,{found.think}",
         ]
+    if version == 4:
+        lines += [
+            f"lists,{found.waiting}",
+            f"pieces,{found.pieces}",
+            f"longest-list,{found.longest}",
+            f"over-pieces,{max(0, found.pieces - lists.PIECES)}",
+            f"at-once,{max(found.at_once.finishes, default=0)}",
+            f"at-once-without-lists,{max(found.clients.costs.values(), default=0)}",
+        ]
     lines += ["space,cells", *(f"{space},{count}" for space, count in spaces.items()), "name,messages,cost", *found.names.lines()]
-    if version == 3:
+    if version > 2:
         lines += ["client,messages,cost", *found.clients.lines()]
     if not has_clients:
         tell("the trace has no clients: speed-ups are those of as many clients as messages")

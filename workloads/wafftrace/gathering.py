@@ -227,7 +227,10 @@ def line_of(kind: Kind, windows: list[Window], places: list[Place]) -> dict[str,
             ratio = -(-100 * length // least) if least else 100
             found[name] = f"{ratio // 100}.{ratio % 100:02}"
         elif name in PLACES and "length" in header:
-            found[name] = max(zip(whole(rows, "length"), rows, strict=True), key=lambda it: it[0])[1][name]
+            number, row = max(zip(whole(rows, "length"), places, strict=True), key=lambda it: it[0])[1]
+            # A message is one of its window.
+            is_message = row.get("limit") == "after" and row[name] != "-"
+            found[name] = f"{windows[number].file}:{row[name]}" if is_message else row[name]
         elif kind.command == "why" and name in FIRSTS:
             found |= {"file": windows[places[0][0]].file, name: rows[0][name]}
         elif name == "running":

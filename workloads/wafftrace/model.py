@@ -13,6 +13,7 @@ from . import limits
 from .clients import Loop
 from .hierarchy import Tree
 from .logs import Data, File, Lines, Meta, Refusal, Request, counted, named, seconds, tell
+from .order import Item, Lists, Order
 from .prices import Costs, upwards
 
 LEAST_CELL = 4096
@@ -66,6 +67,8 @@ class Found:
     logs: list[Lines]
     beside: list[Lines] = field(default_factory=list)
     said: list[str] = field(default_factory=list)
+    # What each request waits for, where the trace is to have lists.
+    order: Order | None = None
 
     def report(self, messages: int) -> None:
         """Tells what was kept, then what was left out."""
@@ -323,9 +326,9 @@ Line = tuple[str, int, str]
 
 class Messages:
     """The lines of a trace, made of the requests in the order of their times. Their costs are those that were measured, or those of
-    their sizes. With a `loop` the trace has clients."""
+    their sizes. With a `loop` the trace has clients, with an `order` lists of what each message waits for."""
 
-    def __init__(self, store: Store, shape: Shape, options: Namespace, costs: Costs, loop: Loop | None) -> None:
+    def __init__(self, store: Store, shape: Shape, options: Namespace, costs: Costs, loop: Loop | None, order: Order | None = None) -> None:
         self.store = store
         self.cell = shape.cell
         self.unit = shape.unit
@@ -336,6 +339,14 @@ class Messages:
         self.costs = costs
         self.loop = loop
         self.lines = ["message,cost,release,client,think,ops" if loop else "message,cost,release,ops"]
+        self.order = order if loop is not None and loop.is_closed else None
+        self.lists = Lists()
+        # The list of the next message, where messages have some; and the requests as they were issued, with their costs.
+        self.after = ""
+        self.items: list[Item] = []
+        self.item_costs: list[int] = []
+        if self.order is not None:
+            self.lines = ["message,cost,release,client,think,after,ops"]
         self.client = "-"
         self.release = self.think = self.latest = self.count = 0
         self.cut_costs = 0
@@ -348,6 +359,9 @@ class Messages:
         self.takes_all = self.takes and options.blocks == "all"
 
     def add(self, requests: list[Request]) -> None:
+        if self.order is not None:
+            self.add_ordered(self.order, requests)
+            return
         requests.sort(key=operator.attrgetter("time"))
         start = requests[0].time if requests else 0
         times = self.loop.times(requests, start) if self.loop else (((it.time - start) // self.tick, 0) for it in requests)
@@ -383,6 +397,59 @@ class Messages:
         self.count += operations
         self.latest = max(self.latest, latest)
 
+    def add_ordered(self, order: Order, requests: list[Request]) -> None:
+        """The same with lists: each names the last messages of the requests that it waits for."""
+        self.items = list(order.items(requests))
+        tick, start = self.tick, min((it.time for it in requests), default=0)
+        last: dict[int, int] = {}
+        if self.measured:
+            self.guessed.update(it.name for it in requests if it.took is None and (isinstance(it, Data) or it.ops))
+        for item in self.items:
+            it = item.request
+            release = (it.time - start if item.came else item.release) // tick
+            self.after = self.list_of(item, last)
+            self.item_costs.append(self.of_request(it, release, self.gap(item.think)))
+            last[item.number] = len(self.lines) - 1
+            self.lists.messages = len(self.lines) - 1
+
+    def of_request(self, it: Request, release: int, think: int) -> int:
+        """The messages of a request. Answers what it costs."""
+        took = it.took if self.measured else None
+        if not isinstance(it, Data):
+            cost = self.price(it.name, 0, took) if it.ops else 0
+            self.meta(it, release, think)
+            return cost
+        self.number += 1
+        head = self.heads[it.kind].get(it.place) or self.head(it.kind, it.place)
+        at = it.place.base + it.offset
+        cost = self.price(it.name, it.length, took)
+        self.data(it, release, think, cost, head, at // self.cell, (at + it.length - 1) // self.cell)
+        return cost
+
+    def price(self, name: str, length: int, took: int | None) -> int:
+        return self.costs.of(name, length) if took is None else -(-took // self.tick) or 1
+
+    def gap(self, nanoseconds: int) -> int:
+        """A think time in ticks, cut where it is longer than a trace has it."""
+        return self.loop.think(nanoseconds) if self.loop is not None else 0
+
+    def gap_behind(self, nanoseconds: int) -> int:
+        """The gap behind a message that another one waits for, in the same way."""
+        ticks = nanoseconds // self.tick
+        if ticks <= limits.THINK:
+            return ticks
+        self.lists.cut += 1
+        self.lists.longest = max(self.lists.longest, nanoseconds)
+        return limits.THINK
+
+    def list_of(self, item: Item, last: dict[int, int]) -> str:
+        """What a message waits for: the numbers of messages, and the gaps behind them."""
+        pieces = sorted((last[number], self.gap_behind(gap)) for number, gap, _ in item.after if last[number] > 0)
+        self.lists.by_kind.update(kind for number, _, kind in item.after if last[number] > 0)
+        self.lists.pieces += len(pieces)
+        self.lists.waiting += bool(pieces)
+        return " ".join(f"{number}+{gap}" if gap else f"{number}" for number, gap in pieces)
+
     def head(self, kind: str, file: File) -> str:
         """How an operation on the data of a file begins."""
         found = self.heads[kind][file] = f"{'read' if kind == 'read' else 'set'} {self.store.data_space(file)}:"
@@ -410,7 +477,9 @@ class Messages:
         if self.loop is None:
             self.lines.append(f"{name},{cost},{self.release},{ops}")
             return
-        self.lines.append(f"{name},{cost},{self.release},{self.client},{self.think},{ops}")
+        after = f"{self.after}," if self.order is not None else ""
+        self.lines.append(f"{name},{cost},{self.release},{self.client},{self.think},{after}{ops}")
+        self.after = ""
         # What else comes of the request follows at once.
         self.release = 0 if self.loop.is_closed else self.release
         self.think = 0
@@ -461,7 +530,7 @@ class Messages:
         self.number += 1
         self.release, self.think, self.client = release, think, it.client
         took = it.took if self.measured else None
-        cost = self.costs.of(it.name, 0) if took is None else -(-took // self.tick) or 1
+        cost = self.price(it.name, 0, took)
         after: list[Line] = []
         if it.blocks and self.options.blocks != "none":
             runs = []
@@ -494,13 +563,13 @@ def map_text(store: Store, shape: Shape) -> str:
     return text.getvalue()
 
 
-def tree_text(store: Store, shape: Shape, stripes: int) -> str:
-    """The hierarchy that accepts the trace."""
+def tree_text(store: Store, shape: Shape, stripes: int, remarks_of_trace: list[str]) -> str:
+    """The hierarchy that accepts the trace, with remarks of what the trace was made of."""
     tree, remarks = store.tree(shape.spaces, stripes, shape.unit)
     if len(tree.parents) > limits.AFFINITIES or len(tree.maps) > limits.SPACES:
         raise Refusal(3, f"{len(tree.parents)} affinities, {len(tree.maps)} spaces: more than a hierarchy has (fewer --stripes may do)")
     tree.is_large = shape.is_large
-    tree.comments.before["model", ""] = [f"# Made by waff-trace. A cell of data is {shape.cell} bytes."]
+    tree.comments.before["model", ""] = [f"# Made by waff-trace. A cell of data is {shape.cell} bytes.", *remarks_of_trace]
     tree.comments.beside = {("space", space): f"# {what}" for space, what in remarks.items()}
     return tree.text()
 
@@ -522,7 +591,7 @@ def warn(messages: Messages, shape: Shape, logs: list[Lines]) -> None:
     count = len(messages.lines) - 1
     if messages.guessed:
         names = ", ".join(f"{name} {times}" for name, times in sorted(messages.guessed.items()))
-        tell(f"requests without a latency, which cost what their size says: {messages.guessed.total()} ({names})")
+        tell(f"requests without a latency, which cost their price: {messages.guessed.total()} ({names})")
     if advice := messages.costs.advice(messages.number):
         tell(advice)
     if messages.cut_costs:

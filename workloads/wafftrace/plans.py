@@ -9,6 +9,7 @@ from collections.abc import Iterator, Sequence
 from . import limits
 from .clients import NONE
 from .hierarchy import Tree, read_tree
+from .lists import pieces_of
 from .logs import Refusal, is_number, read_text, shown
 from .traces import Cells, Trace, cells, read_trace
 
@@ -74,16 +75,15 @@ class Seen:
 def chain_of(tree: Tree, affinities: list[str], trace: Trace, starts: list[int], finishes: list[int]) -> list[int]:
     """The printed chain: it ends with the message of greatest finish, and before each message stands the one of greatest finish
     among those that it waits for, unless its release is no less. It waits for the earlier ones that exclude it; in a trace with clients
-    for those that exclude it and start before it, and a think time for the one before of its client. The lowest number decides a tie."""
+    for those that exclude it and start before it, a think time for the one before of its client, and a gap for those of its list. The
+    lowest number decides a tie."""
     seen = Seen(tree)
     own = ones_before(trace)
     before: dict[int, int] = {}
     for group in groups_of(trace, starts):
         for number in group:
-            it, last = trace.messages[number], seen.last(affinities[number])
-            one = own.get(number)
-            if one is not None and starts[one] < starts[number]:
-                last.append((finishes[one] + it.think, -one))
+            last = seen.last(affinities[number])
+            last += [(finishes[one] + gap, -one) for one, gap in awaited(trace, own, number).items() if starts[one] < starts[number]]
             if last and max(last)[0] > floor_of(trace, own, number):
                 before[number] = -max(last)[1]
         for number in group:
@@ -105,6 +105,14 @@ def ones_before(trace: Trace) -> dict[int, int]:
             if it.client in latest:
                 found[number] = latest[it.client]
             latest[it.client] = number
+    return found
+
+
+def awaited(trace: Trace, own: dict[int, int], number: int) -> dict[int, int]:
+    """The messages that one waits for by its client or its list, and the ticks behind their finishes."""
+    found = {one - 1: gap for one, gap in pieces_of(trace.messages[number].after)}
+    if number in own:
+        found[own[number]] = max(trace.messages[number].think, found.get(own[number], 0))
     return found
 
 
@@ -147,7 +155,7 @@ def plan_text(
     total = sum(it.cost for it in messages)
     length = max(finishes, default=0)
     release = floor_of(trace, own, chain[0]) if chain else 0
-    release += sum(messages[number].think for one, number in itertools.pairwise(chain) if own.get(number) == one)
+    release += sum(awaited(trace, own, number).get(one, 0) for one, number in itertools.pairwise(chain))
     cost = sum(messages[it].cost for it in chain)
     lines = ["message,affinity,start,finish,worker"]
     for number, (affinity, start, finish, worker) in enumerate(zip(affinities, starts, finishes, workers, strict=True), 1):

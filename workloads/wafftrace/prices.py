@@ -2,6 +2,7 @@
 
 import csv
 import io
+import os
 import re
 from argparse import Namespace
 from collections.abc import Callable, Iterable
@@ -14,6 +15,11 @@ from .logs import Data, Refusal, Request, read_text, shown
 # says for reads from memory, on a virtual machine with an Intel Xeon of 2.5 GHz.
 BASE = 600
 PER_KIB = 200
+# The table of prices that lies beside the scripts: what costs are where nobody says.
+INSTALLED = os.path.join(os.path.dirname(os.path.realpath(__file__)), "prices.csv")
+
+# What costs may be by.
+KINDS = ("latency", "size", "table")
 
 HEADER = ["name", "base", "per_kib"]
 # The row for all that have none.
@@ -31,9 +37,10 @@ def upwards(number: int, step: int) -> int:
 
 
 class Prices:
-    """Prices in nanoseconds: by the name of a request what each takes, and what each KiB begun of it takes."""
+    """Prices in nanoseconds: by the name of a request what each takes, and what each KiB begun of it takes; and the file that they are of,
+    none where they are by size alone."""
 
-    def __init__(self, table: dict[str, tuple[int, int]], called: str = "") -> None:
+    def __init__(self, table: dict[str, tuple[int, int]], called: str) -> None:
         self.table = table
         self.others = table.get(OTHERS)
         self.called = called
@@ -44,14 +51,52 @@ class Prices:
             raise Refusal(3, f"{self.called}: no price of `{name}`, and no row `{OTHERS}` for all others")
         return found[0] + found[1] * upwards(length, 1024)
 
+    @property
+    def kind(self) -> str:
+        """What they are by, in words."""
+        return f"table {self.called}" if self.called else "size"
+
+    def told(self, names: Iterable[str]) -> str:
+        """The prices of these names, each once, and of all others."""
+        rows = {name: self.table[name] for name in names if name in self.table and name != OTHERS}
+        words = [f"{name} {price_told(*row)}" for name, row in rows.items()]
+        words += [f"{'others' if words else 'each'} {price_told(*self.others)}"] if self.others else []
+        return ", ".join(words)
+
+
+def price_told(base: int, per_kib: int) -> str:
+    """A price in microseconds."""
+    return microseconds(base) + (f" + {microseconds(per_kib)}/KiB" if per_kib else "")
+
+
+def by_size(base: int | None = None, per_kib: int | None = None) -> Prices:
+    """Prices that are the same for all kinds of requests."""
+    return Prices({OTHERS: (BASE if base is None else base, PER_KIB if per_kib is None else per_kib)}, "")
+
+
+def installed() -> Prices:
+    """The prices that lie beside the scripts."""
+    return Prices(read_prices(INSTALLED).table, os.path.basename(INSTALLED))
+
+
+def cost_of(asked: Namespace) -> str:
+    """What costs are: the word of `--cost`, or what the other words about prices ask for, or by the table."""
+    kind: str | None = asked.cost
+    if kind == "size" and asked.prices is not None:
+        raise Refusal(2, "--cost size: --prices FILE is for --cost table")
+    if kind is None:
+        has_size = asked.prices is None and (asked.base is not None or asked.per_kib is not None)
+        kind = "size" if has_size else "table"
+    return kind
+
 
 def prices_of(asked: Namespace) -> Prices:
-    """The prices that words tell."""
-    if asked.prices is None:
-        if asked.cost == "table":
-            raise Refusal(2, "--cost table: --prices FILE is wanted, with the prices")
-        return Prices({OTHERS: (asked.base, asked.per_kib)})
-    return read_prices(asked.prices)
+    """The prices that words tell: those of requests without a latency, where costs are latencies."""
+    if asked.prices is not None:
+        return read_prices(asked.prices)
+    if asked.cost == "size" or asked.base is not None or asked.per_kib is not None:
+        return by_size(asked.base, asked.per_kib)
+    return installed()
 
 
 def read_prices(name: str) -> Prices:
@@ -99,9 +144,15 @@ class Costs:
         return f"{told}: --tick {microseconds(rounded_down(self.least // FEW_TICKS))} tells them apart"
 
 
+def price_of(prices: Prices) -> Callable[[Request], int]:
+    """A function that tells the price of a request, in nanoseconds."""
+    return lambda it: prices.of(it.name, it.length if isinstance(it, Data) else 0)
+
+
 def took_of(prices: Prices) -> Callable[[Request], int]:
     """A function that tells how long a request took, in nanoseconds: its latency, or its price where the log has none."""
-    return lambda it: it.took if it.took is not None else prices.of(it.name, it.length if isinstance(it, Data) else 0)
+    price = price_of(prices)
+    return lambda it: it.took if it.took is not None else price(it)
 
 
 def rounded_down(number: int) -> int:

@@ -2,9 +2,8 @@
 
 import collections
 import heapq
-import itertools
 import re
-from collections.abc import Iterator, Sequence
+from collections.abc import Iterable, Iterator, Sequence
 from dataclasses import dataclass
 
 from .logs import File, Lines, as_name, stem_of
@@ -13,13 +12,14 @@ from .logs import File, Lines, as_name, stem_of
 HEAD = re.compile(
     r"(?:\[pid +(\d{1,9})\] +|(\d{1,9}) +)?(\d{1,12})\.(\d{6}|\d{9}) (?:\[(?: *\d{1,4}|[0-9a-f?]{8,16})\] )*(.*)", re.ASCII
 )
-# What stands behind the arguments of a call: its result, perhaps the path of a descriptor (-y, -yy), and how long it took.
-PATH_SHOWN = r"<([^<>]*)(?:<[^<>]*>)?>"
+# What stands behind the arguments of a call: its result, perhaps the path of a descriptor or the two ends of a socket (-y, -yy), and
+# how long it took.
+PATH_SHOWN = r"<((?:->|[^<>])*)(?:<[^<>]*>)?>"
 TAIL = re.compile(
     rf"(-?\d{{1,18}}|\?|0x[0-9a-f]{{1,16}})(?:{PATH_SHOWN})?([^<>]*?)(?: <(\d{{1,9}})\.(\d{{6}}|\d{{9}})>)?$", re.ASCII
 )
 # The arguments up to the bracket behind them: what stands in quotes, and the paths of descriptors, may have brackets.
-ARGUMENTS = re.compile(r'(?:[^"<)]|"(?:[^"\\]|\\.)*"(?:\.\.\.)?|<[^<>]*>|<|\)(?! += ))*\) += ', re.ASCII)
+ARGUMENTS = re.compile(r'(?:[^"<)]|"(?:[^"\\]|\\.)*"(?:\.\.\.)?|<(?:->|[^<>])*>|<|\)(?! += ))*\) += ', re.ASCII)
 FORKS = ("clone", "clone3", "fork", "vfork")
 FORKED = re.compile(r"(?:clone3?|v?fork)\(", re.ASCII)
 # What strace says on standard error, which may come in the middle of a line of a log that goes there too.
@@ -106,6 +106,8 @@ class Process:
     # What stands before its number, where there are several boxes.
     box: str = ""
     pending: tuple[int, str] | None = None
+    # The place of the line with which the call began.
+    begun: int = 0
 
     def child(self, name: str, flags: str) -> "Process":
         shares_files = "CLONE_FILES" in flags
@@ -120,10 +122,13 @@ class Process:
 
 @dataclass(slots=True)
 class Source:
-    """A file of a log: its lines, and what stands before the numbers of its processes (`box`)."""
+    """A file of a log: its lines, what stands before the numbers of its processes (`box`), its text, and the name of the process of all lines
+    where none has a number."""
 
     log: Lines
-    box: str = ""
+    box: str
+    text: Iterable[str]
+    alone: str | None = None
 
 
 @dataclass(slots=True)
@@ -148,18 +153,22 @@ class Event:
         return self.line.startswith("[pid ")
 
 
-def events_of(source: Source, lines: list[str]) -> list[Event]:
-    """What the lines tell, in their order. A first line that is cut is not understood."""
-    events = list(all_events(source, lines))
-    if is_first_cut(events):
-        source.log.not_understood(events[0].number, events[0].line)
-        del events[0]
-    return events
+def events_of(source: Source, log: Lines) -> Iterator[Event]:
+    """What the lines tell, in their order, and to `log` what is not understood. A first line that is cut is not."""
+    events = all_events(source, log)
+    first, second = next(events, None), next(events, None)
+    if first is not None and second is not None and is_first_cut(first, second):
+        log.not_understood(first.number, first.line)
+    elif first is not None:
+        yield first
+    if second is not None:
+        yield second
+        yield from events
 
 
-def all_events(source: Source, lines: list[str]) -> Iterator[Event]:
-    begun, log, box = "", source.log, source.box
-    for number, line in enumerate(lines, 1):
+def all_events(source: Source, log: Lines) -> Iterator[Event]:
+    begun, box, number = "", source.box, 0
+    for number, line in enumerate(source.text, 1):
         line, begun = begun + line, ""
         if "strace: Process " in line:
             attached = ATTACHED.search(line)
@@ -173,27 +182,31 @@ def all_events(source: Source, lines: list[str]) -> Iterator[Event]:
             log.not_understood(number, line)
             continue
         alone, first, seconds, digits, rest = head.groups()
-        yield Event(source, number, line, box + (alone or first or ""), nanoseconds(seconds, digits), rest)
+        yield Event(source, number, line, source.alone or box + (alone or first or ""), nanoseconds(seconds, digits), rest)
+    log.count = number
 
 
-def is_first_cut(events: list[Event]) -> bool:
+def is_first_cut(first: Event, second: Event) -> bool:
     """Whether the first line is the end of one: its time is none, or its process has no number and the next one has one, of which
     nothing told before."""
-    if len(events) < 2 or events[0].pid is None or events[1].pid is None:
+    if first.pid is None or second.pid is None:
         return False
-    first, second = events[:2]
     if abs(second.time - first.time) > YEAR:
         return True
     makes_it = second.is_bracketed and FORKED.match(first.rest) is not None
     return not first.has_number and second.has_number and not makes_it
 
 
-def has_number_later(events: list[Event]) -> bool:
-    """Whether the process without a number has one later: it is alone until strace tells of another one, or it makes one."""
-    alone = list(itertools.takewhile(lambda it: not it.has_number, events))
-    is_followed = any(it.pid is None or FORKED.match(it.rest) for it in alone)
-    is_there = any(it.pid is not None for it in alone)
-    return is_followed and is_there and any(it.is_bracketed for it in events[len(alone) : len(alone) + 1])
+def numbers_of(events: Iterable[Event]) -> tuple[bool, bool]:
+    """Whether a line has a number, and whether the process without a number has one later: it is alone until strace tells of another one,
+    or it makes one."""
+    is_followed = is_there = False
+    for it in events:
+        if it.has_number:
+            return True, is_followed and is_there and it.is_bracketed
+        is_followed = is_followed or it.pid is None or FORKED.match(it.rest) is not None
+        is_there = is_there or it.pid is not None
+    return False, False
 
 
 @dataclass(slots=True)
@@ -206,31 +219,35 @@ class Birth:
     returned: int
 
 
-def births_of(events: Sequence[Event]) -> dict[str, collections.deque[Birth]]:
+class Births:
     """For each process the calls that made one of this number, in their order."""
-    found: dict[str, collections.deque[Birth]] = collections.defaultdict(collections.deque)
-    begun: dict[str, tuple[int, str]] = {}
-    for at, event in enumerate(events):
+
+    def __init__(self) -> None:
+        self.found: dict[str, collections.deque[Birth]] = collections.defaultdict(collections.deque)
+        # Of each process the call that has not returned: its place and its text.
+        self.begun: dict[str, tuple[int, str]] = {}
+
+    def take(self, at: int, event: Event) -> None:
+        """Takes the next line of the log, which stands at this place."""
         pid, rest = event.pid, event.rest
         if pid is None or "clone" not in rest and "fork" not in rest:
-            continue
+            return
         first = at
         if rest.startswith("<... "):
             # The first process of a log on standard error has no number at first.
-            half = begun.pop(pid, None) or (begun.pop(event.source.box, None) if event.is_bracketed else None)
+            half = self.begun.pop(pid, None) or (self.begun.pop(event.source.box, None) if event.is_bracketed else None)
             if half is None:
-                continue
+                return
             first, text = half
             rest = text + rest[rest.find(RESUMED) + len(RESUMED) :]
         elif not FORKED.match(rest):
-            continue
+            return
         elif rest.endswith(UNFINISHED):
-            begun[pid] = at, rest[: -len(UNFINISHED)]
-            continue
+            self.begun[pid] = at, rest[: -len(UNFINISHED)]
+            return
         args, tail = parted(rest)
         if tail and tail[1].isdecimal() and int(tail[1]):
-            found[event.source.box + str(int(tail[1]))].append(Birth(pid, args, first, at))
-    return found
+            self.found[event.source.box + str(int(tail[1]))].append(Birth(pid, args, first, at))
 
 
 def parted(args: str) -> tuple[str, re.Match[str] | None]:
@@ -245,18 +262,31 @@ def parted(args: str) -> tuple[str, re.Match[str] | None]:
     return args[:at], tail
 
 
-def merged(sources: Sequence[Source], texts: Sequence[list[str]]) -> tuple[list[Event], set[str]]:
-    """What the files of a log tell, in the order of time; and the boxes of which a process without a number has one later. A file of
-    `strace -ff` has lines without numbers, and the number of its process in its name."""
-    files = [events_of(source, lines) for source, lines in zip(sources, texts, strict=True)]
-    later = {source.box for source, events in zip(sources, files, strict=True) if has_number_later(events)}
-    if len(files) == 1:
-        return files[0], later
-    for source, events in zip(sources, files, strict=True):
-        if not any(it.has_number for it in events):
-            name = stem_of(source.log.name)
-            number = name.rpartition(".")[2]
-            alone = source.box + (number if number.isdecimal() and len(number) <= 9 else as_name(name))
-            for it in events:
-                it.pid = alone if it.pid is not None else None
-    return list(heapq.merge(*files, key=lambda it: it.time)), later
+class Merged:
+    """What the files of a log tell, in the order of time, as often as it is wanted. A file of `strace -ff` has lines without numbers, and the
+    number of its process in its name."""
+
+    def __init__(self, sources: Sequence[Source]) -> None:
+        self.sources = sources
+        # The boxes of which a process without a number has one later.
+        self.with_number_later: set[str] = set()
+        for source in sources:
+            has_number, is_later = numbers_of(events_of(source, Lines("", 0)))
+            if is_later:
+                self.with_number_later.add(source.box)
+            if len(sources) > 1 and not has_number:
+                name = stem_of(source.log.name)
+                number = name.rpartition(".")[2]
+                source.alone = source.box + (number if number.isdecimal() and len(number) <= 9 else as_name(name))
+
+    def events(self) -> Iterator[Event]:
+        """What they tell, and to their logs what is not understood."""
+        return self.told([it.log for it in self.sources])
+
+    def beforehand(self) -> Iterator[Event]:
+        """The same, and nothing to their logs."""
+        return self.told([Lines("", 0) for _ in self.sources])
+
+    def told(self, logs: list[Lines]) -> Iterator[Event]:
+        files = [events_of(source, log) for source, log in zip(self.sources, logs, strict=True)]
+        return iter(heapq.merge(*files, key=lambda it: it.time)) if len(files) > 1 else files[0]

@@ -10,6 +10,7 @@ from dataclasses import dataclass, field
 from typing import TypeVar
 
 from .calls import Job, Late, answers
+from .clients import NONE
 from .deals import Key, key_of
 from .hierarchy import Tree
 from .logs import Refusal, shown
@@ -59,21 +60,24 @@ def order(by: str, over: str) -> Order:
 
 @dataclass(frozen=True, slots=True)
 class Source:
-    """A trace that trees are ranked for: its file, how many messages it has, their cost, the last release, and the operations of the
-    largest."""
+    """A trace that trees are ranked for: its file, how many messages it has, their cost, the last release, the operations of the
+    largest, how many clients it has (0 where it has none), and whether no message is released later and no client ever thinks."""
 
     name: str
     messages: int
     cost: int
     last: int
     longest: int
+    clients: int
+    is_at_once: bool
 
     @staticmethod
     def of(name: str) -> "Source":
         found = read_trace(name).messages
         return Source(
             name, len(found), sum(it.cost for it in found), max((it.release for it in found), default=0),
-            max((it.count() for it in found), default=1),
+            max((it.count() for it in found), default=1), len({it.client for it in found} - {NONE}),
+            not any(it.release or it.think for it in found),
         )
 
 
@@ -131,14 +135,14 @@ class Ranker:
 
     def floors(self, tree: str) -> list[int]:
         """The least length that any tree allows, for each trace and number of workers: the greatest of what `waff limits` tells of the
-        workers, the clients and the data."""
+        workers, the clients, the lists of what messages wait for, and the data."""
         workers = ",".join(map(str, self.asked.workers))
         jobs = [["limits", "--workers", workers, "--", os.path.abspath(tree), os.path.abspath(it.name)] for it in self.traces]
         found: list[int] = []
         for text in answers(self.asked, jobs, self.until):
             rows = {(row["limit"], row["workers"]): int(row["length"]) for row in csv.DictReader(text.splitlines())}
             try:
-                of_all = max(rows["clients", "-"], rows["data", "-"])
+                of_all = max(rows["clients", "-"], rows.get(("after", "-"), 0), rows["data", "-"])
                 found += [max(of_all, rows["work", str(it)]) for it in self.asked.workers]
             except KeyError as fault:
                 raise Refusal(3, f"`waff limits` told nothing of {fault}") from None

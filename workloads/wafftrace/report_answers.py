@@ -7,7 +7,7 @@ import subprocess
 from array import array
 from collections.abc import Sequence
 from concurrent.futures import Future, ThreadPoolExecutor
-from dataclasses import dataclass
+from dataclasses import dataclass, field
 
 from . import limits
 from .logs import Refusal, shown
@@ -129,6 +129,8 @@ class Report:
     log: str | None = None
     log_name: str = ""
     made: str = ""
+    # What each tree but the first gains over that one, and whether it holds at other prices.
+    gains: list[str] = field(default_factory=list)
 
 
 def file_word(name: str) -> str:

@@ -52,7 +52,7 @@ def stack_of(under: Under, workers: int) -> Stack:
         if row["workers"] in ("-", str(workers)):
             found[row["limit"]] = int(row["length"])
     parts, reached = [], 0
-    for level in (max(found["data"], found["clients"]), found["tree"], found["order"], found["work"], found["plan"]):
+    for level in (max(found["data"], found["clients"], found.get("after", 0)), found["tree"], found["order"], found["work"], found["plan"]):
         level = min(max(level, reached), found["plan"])
         parts.append(level - reached)
         reached = level
@@ -84,7 +84,13 @@ def map_of(under: Under) -> tuple[list[str], dict[tuple[str, str], int], int]:
 def allowed_of(under: Under) -> list[Row]:
     """What each limit allows, from the data down to the plan for the greatest number of workers."""
     rows = {row["limit"]: row for row in under.limits.rows() if row["workers"] in ("-", str(under.workers))}
-    return [rows[it] for it in ("clients", "data", "work", "tree", "order", "plan")]
+    return [rows[it] for it in ("clients", "after", "data", "work", "tree", "order", "plan") if it in rows]
+
+
+def least_of_any_tree(under: Under) -> int:
+    """The length that no tree passes, for the greatest number of workers. What is read alone may be shared under another one."""
+    rows = {row["limit"]: int(row["length"]) for row in under.limits.rows() if row["workers"] in ("-", str(under.workers))}
+    return max(rows["work"], rows["clients"], rows.get("after", 0), rows.get("writes", rows["data"]))
 
 
 def number_of(value: str) -> float:

@@ -9,7 +9,7 @@ from string import Template
 
 from .report_answers import Answer, Ran, Report, Row, Under
 from .report_charts import (
-    PARTS, RUN_WORDS, Charts, Stack, allowed_of, map_of, run_rows, stack_of, stacks_of,
+    PARTS, RUN_WORDS, Charts, Stack, allowed_of, least_of_any_tree, map_of, run_rows, stack_of, stacks_of,
 )
 
 # So many rows of a table are shown, with a word on those left out.
@@ -93,20 +93,39 @@ def stack_table(stacks: list[Stack]) -> str:
     return table(rows, columns, "table-stacks", "The ticks that each limit adds to those before it", ("under",))
 
 
-def cause(part: int, limits: dict[str, Row]) -> str:
+def whose(clients: Row, by_client: dict[str, Row]) -> str:
+    """The client whose time is a limit: with its pauses, or where it has none by what it asks for alone."""
+    if clients["at"] == "-":
+        return "a message by itself, with its release, which no tree and no worker mends"
+    row = by_client.get(clients["at"])
+    if row is not None and row["cost"] == clients["length"]:
+        return f"client {clients['at']}, which asks for one thing after another and never pauses: no tree and no worker makes it faster"
+    return f"client {clients['at']}, with its releases and thinking, which no tree and no worker mends"
+
+
+def cause(part: int, limits: dict[str, Row], by_client: dict[str, Row]) -> str:
     """What a part of a stack is due to, in words."""
     data, clients, tree = (limits[it] for it in ("data", "clients", "tree"))
+    after = limits.get("after", clients)
+    if part == 0 and int(after["length"]) > max(int(data["length"]), int(clients["length"])):
+        return f"the order between clients, as the trace tells it: message {after['at']} is the last of a chain of messages that wait for each other"
     if part == 0 and int(data["length"]) >= int(clients["length"]):
         return f"the cell {data['at']}: the messages that touch it run one after another under any tree"
     if part == 0:
-        whose = "a message by itself" if clients["at"] == "-" else f"client {clients['at']}"
-        return f"{whose}, with its releases and thinking, which no tree and no worker mends"
+        return whose(clients, by_client)
     return (
         f"the tree: the messages that run in {tree['at']} or above it exclude each other",
         "the order of service",
         "the workers, who have so much to do",
         "the plan itself: a better one may gain this",
     )[part - 1]
+
+
+def tree_costs(length: int, least: int) -> str:
+    """What a tree costs beside what no tree passes."""
+    if length <= least:
+        return "and no tree has less"
+    return f"of which the tree and the order of service cost at most <b>{per_cent(length - least, length)}</b> (no tree has less than {least:,})"
 
 
 class Page:
@@ -165,17 +184,19 @@ class Page:
             row, stack = under.figures(), stack_of(under, under.workers)
             rows = {it["limit"]: it for it in allowed_of(under)}
             part = max(range(len(PARTS)), key=lambda it: stack.parts[it])
+            length, least = int(row["length"]), least_of_any_tree(under)
             told = (
                 f"Under <b>{escaped(under.label)}</b> {of_workers(under.workers)} {'needs' if under.workers == 1 else 'need'}"
-                f" <b>{int(row['length']):,}</b> ticks: <b>{row['speedup']}</b> times as fast as one message after another."
+                f" <b>{length:,}</b> ticks, {tree_costs(length, least)}: <b>{row['speedup']}</b> times as fast as one message after another."
             )
             if stack.length:
                 share = per_cent(stack.parts[part], stack.length)
-                told += f" The greatest part of that, {share}, is due to {escaped(cause(part, rows))}."
+                by_client = {it["client"]: it for it in under.clients.rows()}
+                told += f" The greatest part of that, {share}, is due to {escaped(cause(part, rows, by_client))}."
             if rows["data"]["speedup"] != "-":
                 told += f" The data themselves allow {rows['data']['speedup']} times."
             lines.append(f"<p>{told}</p>")
-        return "\n".join(lines)
+        return "\n".join([*(f'<p class="gain">{escaped(it)}</p>' for it in self.report.gains), *lines])
 
     def limits(self) -> None:
         report, workers = self.report, max(self.report.workers)

@@ -10,6 +10,9 @@ from .calls import program_word
 from .logs import Refusal, read_text, shown, tell
 from .report_answers import Program, Report, Under, ask_all, compare_run, file_word, labels, part_of
 from .report_charts import Charts
+from .hierarchy import read_tree
+from .pricing import verdict
+from .ranking import Source, order
 from .report_page import Page, standing_alone
 from .traces import write_file
 from .tuning import workers_of
@@ -48,6 +51,10 @@ def words() -> ArgumentParser:
     top.add_argument(
         "--to", type=tick_of, metavar="T", dest="end", help=f"the tick at which it ends (so that it shows about {PICTURED} messages)"
     )
+    top.add_argument(
+        "--pricings", choices=["ten", "none"], default="ten",
+        help="of several hierarchies say first what each gains over the first one, also at ten other pricings (ten, without this word too)",
+    )
     top.add_argument("--charts", metavar="DIR", help="write each chart to a file in this folder too, as SVG")
     program_word(top)
     return top
@@ -73,7 +80,7 @@ def command_of(asked: Namespace, names: list[str]) -> str:
     line = ["waff-report", names[0], asked.trace, *names[1:], "--workers", ",".join(map(str, asked.workers)), "--out", asked.out]
     for word, value, usual in (
         ("--rule", asked.rule, "arrival"), ("--log", asked.log, None), ("--title", asked.title, None), ("--worst", asked.worst, 10),
-        ("--from", asked.begin, 0), ("--to", asked.end, None), ("--charts", asked.charts, None),
+        ("--from", asked.begin, 0), ("--to", asked.end, None), ("--charts", asked.charts, None), ("--pricings", asked.pricings, "ten"),
     ):
         line += [word, str(value)] if value != usual else []
     return shlex.join([*line, *(["--run", *asked.run] if asked.run else [])])
@@ -100,6 +107,8 @@ def report(asked: Namespace) -> str:
     title = asked.title or f"{os.path.basename(asked.trace)} under {', '.join(labels(names))}"
     told = Report(title, asked.trace, asked.workers, asked.rule, trees, VERSION, log=log, log_name=asked.log or "")
     told.made = command_of(asked, names)
+    if asked.pricings == "ten":
+        told.gains = gains_of(asked, names)
     if asked.run:
         told.runs = compare_run(program, names[0], asked.trace, asked.rule, *asked.run)
     page = Page(told, charts_or_none())
@@ -107,6 +116,18 @@ def report(asked: Namespace) -> str:
     if asked.charts:
         write_charts(asked.charts, page.kept)
     return ""
+
+
+def gains_of(asked: Namespace, names: list[str]) -> list[str]:
+    """What each tree but the first gains over that one by its length, for the greatest number of workers, as priced and at other prices."""
+    tried = Namespace(
+        folder=None, runner=None, program=asked.program, rule=asked.rule, workers=[max(asked.workers)]
+    )
+    first, *others = (read_tree(it) for it in names)
+    sources, key = [Source.of(asked.trace)], order("length", "sum")
+    return [
+        f"{label} gains {verdict(tried, sources, first, other, key).text()}." for label, other in zip(labels(names)[1:], others, strict=True)
+    ]
 
 
 def write_charts(folder: str, charts: dict[str, str]) -> None:

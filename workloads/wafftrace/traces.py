@@ -11,15 +11,18 @@ from collections.abc import Iterable, Iterator
 from dataclasses import dataclass
 from fractions import Fraction
 
-from . import clients, limits
+from . import clients, limits, lists
 from .logs import Refusal, is_number, read_text, rows_of, shown, tell
 
 # How many messages the windows of a trace may have in all.
 MOST_IN_WINDOWS = 20000000
 
 # The headers of traces, and their versions.
-HEADERS = {"message,cost,ops": 1, "message,cost,release,ops": 2, "message,cost,release,client,think,ops": 3}
-FIELDS = {1: 3, 2: 4, 3: 6}
+HEADERS = {
+    "message,cost,ops": 1, "message,cost,release,ops": 2, "message,cost,release,client,think,ops": 3,
+    "message,cost,release,client,think,after,ops": 4,
+}
+FIELDS = {1: 3, 2: 4, 3: 6, 4: 7}
 RANGE = re.compile(r":([0-9]+)-([0-9]+)(?= |;|$)", re.ASCII)
 WORDS: dict[str, tuple[int | None, bool]] = {"set": (2, True), "add": (2, True), "read": (1, False), "copy": (2, False), "swap": (2, False)}
 
@@ -27,7 +30,7 @@ WORDS: dict[str, tuple[int | None, bool]] = {"set": (2, True), "add": (2, True),
 @dataclass(slots=True)
 class Message:
     """A message: its name, its cost, its release (0 where the trace has none), its operations as they are written, its client (`-` for
-    none) and its think time."""
+    none), its think time, and the list of those that it waits for, as it is written."""
 
     name: str
     cost: int
@@ -35,9 +38,12 @@ class Message:
     ops: str
     client: str = clients.NONE
     think: int = 0
+    after: str = ""
 
     def line(self, version: int) -> str:
         """Its record in a trace of this version."""
+        if version == 4:
+            return f"{self.name},{self.cost},{self.release},{self.client},{self.think},{self.after},{self.ops}"
         if version == 3:
             return f"{self.name},{self.cost},{self.release},{self.client},{self.think},{self.ops}"
         return f"{self.name},{self.cost},{self.release},{self.ops}" if version == 2 else f"{self.name},{self.cost},{self.ops}"
@@ -52,7 +58,7 @@ class Message:
 
 @dataclass(slots=True)
 class Trace:
-    """The messages of a trace. One of version 2 has releases, one of version 3 clients too."""
+    """The messages of a trace. One of version 2 has releases, one of version 3 clients too, one of version 4 lists."""
 
     version: int
     messages: list[Message]
@@ -71,6 +77,9 @@ class Trace:
 
     def starts(self) -> list[int]:
         """When each message came as it was recorded: its release, or where it has a client about when that one issued it."""
+        if self.version == 4:
+            issues = lists.Issues()
+            return [issues.next(it.cost, it.release, it.client, it.think, it.after) for it in self.messages]
         if self.has_clients:
             return clients.starts([(it.client, it.cost, it.release, it.think) for it in self.messages])
         return [it.release for it in self.messages]
@@ -83,10 +92,12 @@ def header_of(version: int) -> str:
 # A record as it is written in a line without quotes, by the version of the trace.
 NAME = r'([^,"\r\n]*)'
 NUMBER = r"([0-9]{1,18})"
+AFTER = r"((?:[0-9]{1,18}(?:\+[0-9]{1,18})?(?: (?=[0-9])|(?=,)))*)"
 LINES = {
     1: re.compile(f"^{NAME},{NUMBER},{NAME}$", re.M),
     2: re.compile(f"^{NAME},{NUMBER},{NUMBER},{NAME}$", re.M),
     3: re.compile(f"^{NAME},{NUMBER},{NUMBER},{NAME},{NUMBER},{NAME}$", re.M),
+    4: re.compile(f"^{NAME},{NUMBER},{NUMBER},{NAME},{NUMBER},{AFTER},{NAME}$", re.M),
 }
 # The characters of a part of a long text.
 PART = 1 << 14
@@ -144,10 +155,12 @@ def by_lines(called: str, version: int, plain: str) -> Iterator[Record]:
 
 def by_csv(called: str, version: int, records: Iterator[list[str]]) -> Iterator[Record]:
     """The records of any text."""
-    numbers = {1: (1,), 2: (1, 2), 3: (1, 2, 4)}[version]
+    numbers = {1: (1,), 2: (1, 2), 3: (1, 2, 4), 4: (1, 2, 4)}[version]
     try:
         for number, record in enumerate(records, 2):
             if len(record) != FIELDS[version] or not all(is_number(record[at]) for at in numbers):
+                raise no_message(called, number, version)
+            if version == 4 and re.fullmatch(AFTER + ",", record[5] + ",") is None:
                 raise no_message(called, number, version)
             yield tuple(record)
     except (csv.Error, ValueError) as fault:
@@ -173,7 +186,9 @@ def read_trace(name: str) -> Trace:
         return Trace(version, [Message(it[0], int(it[1]), 0, it[2]) for it in records])
     if version == 2:
         return Trace(version, [Message(it[0], int(it[1]), int(it[2]), it[3]) for it in records])
-    return Trace(version, [Message(it[0], int(it[1]), int(it[2]), it[5], it[3], int(it[4])) for it in records])
+    if version == 3:
+        return Trace(version, [Message(it[0], int(it[1]), int(it[2]), it[5], it[3], int(it[4])) for it in records])
+    return Trace(version, [Message(it[0], int(it[1]), int(it[2]), it[6], it[3], int(it[4]), it[5]) for it in records])
 
 
 # Cells of a space: the first and the last.
@@ -212,10 +227,15 @@ def pace(asked: Namespace) -> str:
 
 def at_once(version: int, records: Iterable[Record]) -> Iterator[str]:
     """A trace without releases and think times."""
-    yield header_of(3 if version == 3 else 1)
-    if version == 3:
-        for name, cost, _, client, _, ops in records:
-            yield f"{name},{cost},0,{client},0,{ops}"
+    yield header_of(version if version > 2 else 1)
+    if version > 2:
+        names = set()
+        for name, cost, _, client, _, *others, ops in records:
+            names.add(client)
+            after = f"{lists.without_gaps(others[0])}," if others else ""
+            yield f"{name},{cost},0,{client},0,{after}{ops}"
+        if len(names) == 1 and clients.NONE not in names:
+            tell(clients.ONE_CLIENT)
     else:
         for it in records:
             yield f"{it[0]},{it[1]},{it[-1]}"
@@ -225,14 +245,15 @@ def paced(version: int, records: Iterable[Record], speed: Fraction) -> Iterator[
     """A trace that is so many times as fast."""
     times, by = speed.denominator, speed.numerator
     yield header_of(version)
-    if version == 3:
+    if version > 2:
         # The same times come often.
         known: dict[str, int] = {}
-        for name, cost, release, client, think, ops in records:
+        for name, cost, release, client, think, *others, ops in records:
             for it in (release, think):
                 if it not in known:
                     known[it] = int(it) * times // by
-            yield f"{name},{cost},{known[release]},{client},{known[think]},{ops}"
+            after = f"{lists.paced(others[0], lambda gap: gap * times // by)}," if others else ""
+            yield f"{name},{cost},{known[release]},{client},{known[think]},{after}{ops}"
     else:
         for name, cost, release, ops in records:
             yield f"{name},{cost},{int(release) * times // by},{ops}"
@@ -241,6 +262,8 @@ def paced(version: int, records: Iterable[Record], speed: Fraction) -> Iterator[
 def few_at_once(version: int, records: list[Record], most: int) -> Iterator[str]:
     """A trace without releases and think times, of which so many clients at most are under way at once. A client that began in the log when
     another one had ended comes behind that one: the two are one client, which is called as the first of them."""
+    if version == 4:
+        raise Refusal(3, "--most: the trace has lists of what messages wait for, which tell how many clients are under way")
     if version != 3:
         raise Refusal(3, "--most: the trace has no clients")
     starts = clients.starts([(it[3], int(it[1]), int(it[2]), int(it[4])) for it in records])
@@ -268,6 +291,12 @@ def entries_of(name: str) -> tuple[int, list[Entry]]:
     found: list[Entry] = []
     ends: dict[str, int] = {}
     names: dict[str, str] = {}
+    if version == 4:
+        issues = lists.Issues()
+        for it in records:
+            client = names.setdefault(it[3], it[3])
+            found.append((issues.next(int(it[1]), int(it[2]), client, int(it[4]), it[5]), client, ",".join(it)))
+        return version, found
     for it in records:
         client = names.setdefault(it[3], it[3])
         start = max(int(it[2]), ends.get(client, 0) + int(it[4]))
@@ -277,10 +306,19 @@ def entries_of(name: str) -> tuple[int, list[Entry]]:
     return version, found
 
 
+def in_order(version: int, entries: list[Entry]) -> list[Entry]:
+    """The messages in the order in which they came; where some wait for others, with the numbers that these have then."""
+    if version < 4:
+        return sorted(entries, key=operator.itemgetter(0))
+    order = sorted(range(len(entries)), key=lambda at: entries[at][0])
+    lines = lists.renumbered([line for _, _, line in entries], order)
+    return [(*entries[at][:2], line) for at, line in zip(order, lines, strict=True)]
+
+
 def sort(asked: Namespace) -> str:
     """The trace in the order of its releases, or where it has clients of its starts as recorded; those that are equal keep theirs."""
     version, entries = entries_of(asked.trace)
-    entries.sort(key=operator.itemgetter(0))
+    entries = in_order(version, entries)
     return "\n".join([header_of(version), *(line for _, _, line in entries)]) + "\n"
 
 
@@ -303,8 +341,12 @@ def windows_of_ticks(messages: list[Entry], width: int, every: int) -> Windows:
         yield number * every, found[number]
 
 
-def moved(messages: list[Entry], begin: int, version: int) -> Iterator[str]:
-    """The lines of a window that begins at this tick. The first message of a client comes when it came, whatever was before."""
+def moved(messages: list[Entry], begin: int, version: int, numbers: dict[int, int]) -> Iterator[str]:
+    """The lines of a window that begins at this tick. The first message of a client comes when it came, whatever was before. `numbers` are
+    those of all messages, by their entries."""
+    if version == 4:
+        yield from lists.moved(messages, begin, numbers)
+        return
     known: set[str] = set()
     for start, client, line in messages:
         if version == 1:
@@ -320,6 +362,11 @@ def moved(messages: list[Entry], begin: int, version: int) -> Iterator[str]:
                 known.add(client)
             name, cost, _, _, _, ops = line.split(",", 5)
             yield f"{name},{cost},{start - begin},{client},0,{ops}"
+
+
+def numbers_of(version: int, entries: list[Entry]) -> dict[int, int]:
+    """The number of each message, where lists name them."""
+    return {id(it): number for number, it in enumerate(entries, 1)} if version == 4 else {}
 
 
 def prefix_of(out: str) -> str:
@@ -345,15 +392,16 @@ def window(asked: Namespace) -> str:
     parts = windows_of_messages if asked.messages else windows_of_ticks
     prefix = prefix_of(asked.out)
     lines = ["file,messages,from"]
-    most = limits.MESSAGES if version == 3 else limits.EARLIER_MESSAGES
+    most = limits.MESSAGES if version > 2 else limits.EARLIER_MESSAGES
     # Where think times or costs are not those of the log any more, clients are ahead of others that were before them there.
-    if version == 3:
-        entries.sort(key=operator.itemgetter(0))
+    if version > 2:
+        entries = in_order(version, entries)
+    numbers = numbers_of(version, entries)
     for number, (start, messages) in enumerate(parts(entries, width, every), 1):
         name = f"{prefix}{number:05}.csv"
         if len(messages) > most:
             tell(f"{shown(name)}: {len(messages)} messages are more than the {most} that waff takes")
-        write_file(name, "\n".join([header_of(version), *moved(messages, start, version)]) + "\n")
+        write_file(name, "\n".join([header_of(version), *moved(messages, start, version, numbers)]) + "\n")
         lines.append(f"{name},{len(messages)},{start}")
     return "\n".join(lines) + "\n"
 

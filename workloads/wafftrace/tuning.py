@@ -14,9 +14,12 @@ from fractions import Fraction
 
 from . import limits
 from .calls import Late, words_of_calls
+from .clients import ONE_CLIENT
 from .deals import bounds_of, homes_of
+from .gaining import gains
 from .hierarchy import Tree, read_tree
 from .logs import Refusal, shown, tell
+from .pricing import verdict
 from .ranking import ORDERS, Order, Ranker, Row, Source, order
 from .sampling import MOST_PLANNED, SAMPLE, sampled
 from .searching import CAPS, Found, Search
@@ -150,6 +153,19 @@ def words() -> ArgumentParser:
         "--hold", action="append", metavar="TRACE", default=[],
         help="a trace that the tree is not made for (several times): the best tree is ranked for it at the end, beside the tree as it is",
     )
+    top.add_argument(
+        "--beside", metavar="HIER",
+        help="try no tree but this one: show its figures below those of the tree as it is, and whether its gain holds at other prices",
+    )
+    top.add_argument(
+        "--gain", action="store_true",
+        help="try no tree: tell for each name of messages and each space what is planned if these messages did not name its cells, the"
+        " greatest gain first",
+    )
+    top.add_argument(
+        "--pricings", choices=["ten", "none"], default="ten",
+        help="plan both trees at ten pricings too, and tell whether the gain holds (ten, without this word too); none tells nothing of it",
+    )
     words_of_search(top)
     top.add_argument("--write", metavar="FILE", help="write the best of the trees that are tried to this file; a search writes it after each change")
     words_of_calls(top)
@@ -200,8 +216,16 @@ def tune(asked: Namespace) -> str:
             setattr(asked, word, usual)
         elif not asked.search:
             raise Refusal(2, f"--{word.replace('_', '-')}: wanted is --search beside it")
+    if asked.gain and (asked.search or asked.stripes or asked.unit or asked.space or asked.write or asked.also or asked.beside is not None):
+        raise Refusal(2, "--gain tries no tree, for one trace: it takes no --search, --stripes, --unit, --space, --write, --also and --beside")
+    if asked.beside is not None and (asked.search or asked.stripes or asked.unit or asked.space or asked.write):
+        raise Refusal(2, "--beside tries no tree but that one: it takes no --search, --stripes, --unit, --space and --write")
     tree = read_tree(asked.hier)
     sources = [Source.of(it) for it in (asked.trace, *asked.also)]
+    if asked.beside is not None:
+        return beside(asked, tree, sources)
+    if asked.gain:
+        return gained(asked, tree, sources)
     # A space of one cell stands for the whole of a volume or a device, so a search leaves it where it is.
     usual = [space for space, size in tree.sizes.items() if size > 1] if asked.search else largest(tree)
     spaces = list(dict.fromkeys(asked.space or usual))
@@ -230,7 +254,7 @@ def tried(asked: Namespace, tree: Tree, spaces: list[str], sources: list[Source]
     tell(f"{many(len(trees), 'tree', 'trees')} with other stripes or units for {', '.join(spaces)}")
     first, *others = Ranker(asked, sources).rank([tree, *trees])
     by = asked.by or order_of(first, sources)
-    tell_calm(first)
+    tell_calm(first, sources)
     key = order(by, asked.over)
     found = sorted(zip(others, tries, trees, strict=True), key=lambda it: (key(it[0]), it[1]))
     lines = [columns(["stripes", "unit"], asked.workers, len(sources)), f"-,-,{cells(first)}"]
@@ -242,16 +266,44 @@ def tried(asked: Namespace, tree: Tree, spaces: list[str], sources: list[Source]
     name = f"{many(count, 'stripe', 'stripes')} of unit {unit}"
     if key(row) >= key(first):
         name = f"the tree as it is; the best of the others is {name}"
+    tell_pricings(asked, sources, (tree, first), (best, row), key)
     tell(f"the best by {deciding(asked, by)} is {name}: {gain(asked, by, row, first)}{written(asked)}")
     return "\n".join(lines) + "\n"
 
 
-def tell_calm(row: Row) -> None:
-    """Tells where messages hardly wait under the tree as it is, so that other trees can gain nothing."""
+def tell_calm(row: Row, sources: list[Source]) -> None:
+    """Tells where messages hardly wait under the tree as it is, so that other trees can gain nothing, and what may be done about it."""
     most = max(row, key=lambda it: it.waits / max(1, it.cost))
     if 100 * most.waits < most.cost:
         told = f"messages wait {most.waits} ticks in all, and cost {most.cost}"
-        tell(f"under the tree as it is {told}: another tree gains little (`waff-trace pace`)")
+        tell(f"under the tree as it is {told}: another tree gains little{cure(sources)}")
+
+
+def cure(sources: list[Source]) -> str:
+    """What to do where messages hardly wait: nothing where no client ever pauses."""
+    if all(it.clients == 1 for it in sources):
+        return f"; {ONE_CLIENT}"
+    return "" if all(it.is_at_once for it in sources) else " (`waff-trace pace`)"
+
+
+def tell_pricings(asked: Namespace, sources: list[Source], old: tuple[Tree, Row], new: tuple[Tree, Row], key: Order) -> None:
+    """Tells whether what a tree gains over the first one holds at other prices."""
+    if asked.pricings == "ten" and key(new[1])[0] < key(old[1])[0]:
+        tell(f"gain {verdict(asked, sources, old[0], new[0], key).text()}")
+
+
+def beside(asked: Namespace, tree: Tree, sources: list[Source]) -> str:
+    """The figures of two trees, and whether what the second one gains holds at other prices."""
+    other = read_tree(asked.beside)
+    first, second = Ranker(asked, sources).rank([tree, other])
+    by = asked.by or order_of(first, sources)
+    key = order(by, asked.over)
+    if asked.pricings == "ten":
+        tell(f"gain {verdict(asked, sources, tree, other, key).text()}")
+    name = shown(asked.beside)
+    tell(f"{name} by {deciding(asked, by)}: {gain(asked, by, second, first)}")
+    lines = [columns(["hierarchy"], asked.workers, len(sources)), f"{shown(asked.hier)},{cells(first)}", f"{name},{cells(second)}"]
+    return "\n".join(lines) + "\n"
 
 
 def deciding(asked: Namespace, by: str) -> str:
@@ -295,6 +347,18 @@ def told(row: Row) -> str:
     return "; ".join(f"length {it.length}, mean {it.mean}, p99 {it.p99}" for it in row)
 
 
+def gained(asked: Namespace, tree: Tree, sources: list[Source]) -> str:
+    """The table of what is planned where messages of one name do not name the cells of one space, the greatest gain first."""
+    (first,) = Ranker(asked, sources).rank([tree])
+    by = asked.by or order_of(first, sources)
+    rows = gains(asked, tree, sources[0], order(by, asked.over))
+    name, space, _, best = rows[1]
+    tell(f"the most is gained by {by} where {name} does without {space}: {gain(asked, by, best, first)}")
+    lines = [columns(["name", "space", "messages"], asked.workers, 1)]
+    lines += [f"{name},{space},{count or sources[0].messages},{cells(row)}" for name, space, count, row in rows]
+    return "\n".join(lines) + "\n"
+
+
 class Progress:
     """A line at a terminal that tells how far a search is."""
 
@@ -321,7 +385,7 @@ def searched(asked: Namespace, tree: Tree, spaces: list[str], sources: list[Sour
     whole = Ranker(asked, sources)
     (first,) = whole.rank([tree])
     by = asked.by or order_of(first, sources)
-    tell_calm(first)
+    tell_calm(first, sources)
     tell(f"searching for the least {deciding(asked, by)}")
     floors = whole.floors(asked.hier) if by == "length" else []
     with tempfile.TemporaryDirectory(dir=asked.folder) as folder:
@@ -338,6 +402,8 @@ def searched(asked: Namespace, tree: Tree, spaces: list[str], sources: list[Sour
         write_file(asked.write, best.tree.text())
     tell(f"{many(made.ranker.count, 'tree was', 'trees were')} planned")
     tell_held(asked, tree, best.tree, order(by, asked.over))
+    if is_done:
+        tell_pricings(asked, sources, (tree, first), (best.tree, best.row), order(by, asked.over))
     told_best = f"the best by {deciding(asked, by)} is {tree_found(asked, made, best, first, by)}"
     tell(f"{told_best}{written(asked)}{floor(asked, best.row, floors)}")
     if asked.curve:

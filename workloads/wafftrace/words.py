@@ -6,7 +6,6 @@ import errno
 import gc
 import importlib
 import io
-import operator
 import os
 import re
 import sys
@@ -15,9 +14,11 @@ from collections.abc import Callable
 from fractions import Fraction
 from typing import NoReturn
 
-from . import VERSION, clients, limits, model, prices, traces
+from . import VERSION, importing, limits, model, prices, traces
 from .calls import words_of_calls
-from .logs import Data, Refusal, Request, is_number, tell, warn_of_lost
+from .logs import Data, Refusal, Request, is_number, tell
+from .order import USUAL
+from .order_walk import KINDS
 
 # What is done for the words of a command: the text that it prints.
 Run = Callable[[Namespace], str]
@@ -34,11 +35,12 @@ def later(module: str, name: str) -> Run:
 
 
 COST_HELP = """\
-What a cost is: the time for which a message holds its affinity and a worker. `--cost latency` takes the latency of the log,
-which is that only where the request did not wait: in a queue, for a lock, for the disk. A latency that includes waiting is no
-cost, since the plan adds the waits of its own tree and workers, and then they count twice. Where requests were in flight
-together, take `--cost size`: `--base` microseconds and `--per-kib` for each KiB begun. Their values without the options were measured on
-one machine, for reads from memory; workloads/README.md shows how to measure yours. `--cost table` takes prices by kind from a file.
+What a cost is: the time for which a message holds its affinity and a worker. `--cost table` takes prices by kind and size from a
+file: without `--prices` the installed one, which was measured on one machine (workloads/README.md shows how to measure yours).
+`--cost latency` takes the latency of the log, which is a cost only where the request did not wait: in a queue, for a lock, for the
+disk. A plan adds the waits of its own tree and workers, and then they count twice. `--cost size` takes `--base` microseconds and
+`--per-kib` for each KiB begun, whatever the kind. Standard error tells which kinds cost most by prices and by latencies; where these
+differ, plan both (`--also latency=FILE`).
 
 What is left out: in a trace without clients there is no order but that of what excludes each other. Two messages of one client run side
 by side in a plan where they did not in the log, unless their releases keep them apart."""
@@ -47,6 +49,10 @@ NFS_HELP = """\
 The text has names, and no data. Make it with the command that `waff-trace nfs --how CAPTURE` prints, and hand it over:
 `waff-trace nfs --how CAPTURE | sh | waff-trace nfs -`. A latency is the time from a call's last byte to its reply's, at the place of the
 capture. Those of calls that were in flight together overlap, and as costs they count a queue twice: take `--cost table` or `size` for plans."""
+
+PRICE_HELP = """\
+A message has no length, so `--prices` takes all bytes of its cells of data: up to two cells more than the request had. What takes or gives
+back blocks for a request gets a quarter of its cost, as an import gives it. Import with `--prices` where you have the log."""
 
 WINDOW_HELP = """\
 What a window does not show: the messages that were under way before it. Each window begins with no message that runs or waits, so
@@ -59,7 +65,8 @@ A line for each line of the answers: how many windows, their messages, and the s
 weighted by messages, speedup and busy by lengths, running by the messages of windows. p50, p99, latency and any column of whole numbers
 that is not known by its name are those of the median window (of an even number, the lower one of the two in the middle), and with
 `-worst` those of the worst one; they are no percentiles of all messages. Others that are not known are means weighted by messages. The
-place of a limit (at) is that of the window in which it is the greatest, and the cells of why are those of the first window, which is named.
+place of a limit (at) is that of the window in which it is the greatest; the message of `after` stands behind the file of its window. The
+cells of why are those of the first window, which is named.
 Of waits --worst the messages of the greatest latency of all windows are told, as many as an answer has. Each window begins with no
 message under way, so waits and latencies are less than those of the whole trace (`waff-trace window --help`)."""
 
@@ -110,6 +117,8 @@ def speed(word: str) -> Fraction:
 
 def imported(part: ArgumentParser) -> None:
     """The words that all kinds of logs take."""
+    if part.get_default("order") is None:
+        part.set_defaults(order="none")
     part.add_argument("--tree", metavar="FILE", help="write a hierarchy that accepts the trace to this file")
     part.add_argument(
         "--map", metavar="FILE", help="write which cells are whose to this file (space, first and last cell, path or device)"
@@ -119,22 +128,26 @@ def imported(part: ArgumentParser) -> None:
     )
     of_cells(part)
     part.add_argument("--tick", type=tick, metavar="MICROSECONDS", default=1000, help="microseconds in a tick (1)")
-    part.set_defaults(prefers_size=False)
     part.add_argument(
-        "--cost", choices=["latency", "size", "table"],
-        help="cost by the latency in the log (latency, without this word too), by the size, or by the table of --prices",
+        "--cost", choices=prices.KINDS,
+        help="cost by a table of prices (table, without this word too), by the latency in the log, or by the size alone",
     )
     part.add_argument(
-        "--base", type=nanoseconds, metavar="MICROSECONDS", default=prices.BASE,
-        help="cost by size: of each request (0.6, which was measured on one machine)",
+        "--base", type=nanoseconds, metavar="MICROSECONDS",
+        help="cost by size: of each request (0.6, which was measured on one machine); asks for --cost size",
     )
     part.add_argument(
-        "--per-kib", type=nanoseconds, metavar="MICROSECONDS", default=prices.PER_KIB,
-        help="cost by size: of each KiB begun (0.2, which was measured on one machine)",
+        "--per-kib", type=nanoseconds, metavar="MICROSECONDS",
+        help="cost by size: of each KiB begun (0.2, which was measured on one machine); asks for --cost size",
     )
     part.add_argument(
         "--prices", metavar="FILE",
-        help="cost by a table: a CSV file of name,base,per_kib in microseconds, with a row `*` for all other names",
+        help="the table: a CSV file of name,base,per_kib in microseconds, with a row `*` for all other names; without it the installed"
+        " one, which was measured on one machine",
+    )
+    part.add_argument(
+        "--also", action="append", metavar="COST=FILE", default=[],
+        help="write the same messages with costs by latency, size or table to this file too (several times)",
     )
 
 
@@ -268,6 +281,15 @@ def words_of_logs(part: Callable[..., ArgumentParser]) -> None:
     )
     found.add_argument("--under", metavar="FOLDER", help="take only files in this folder or below it")
     found.add_argument("--cwd", metavar="FOLDER", help="where the first process was started, for names that begin there; the current folder")
+    found.add_argument(
+        "--order", metavar="{all,none,KIND,..}", default=USUAL,
+        help=f"what of one thread's waits for another the trace keeps, as version 4: some of {', '.join(KINDS)} ({USUAL})",
+    )
+    for word, to, which in (("--from", "begin", "from then on"), ("--to", "end", "before then")):
+        found.add_argument(
+            word, metavar="SECONDS|TEXT", dest=to,
+            help=f"take only requests {which}: so many seconds after the first line, or the first line that has this text",
+        )
     imported(found)
     of_volume(found)
     of_clients(found, ("thread", "process", "family", "none"), "thread")
@@ -276,7 +298,7 @@ def words_of_logs(part: Callable[..., ArgumentParser]) -> None:
     found.add_argument("log", metavar="LOG", help="the text; `-` is standard input")
     imported(found)
     of_clients(found, ("process", "none"), "none", has_lanes=True)
-    found.set_defaults(overlaps=overlap_of_devices, prefers_size=True)
+    found.set_defaults(overlaps=overlap_of_devices)
 
     found = part("msr", "the trace of a log in the form of SNIA's MSR Cambridge set", of_log("blocks", "read_msr"), COST_HELP)
     found.add_argument("log", metavar="CSV", help="the log; `-` is standard input")
@@ -352,6 +374,17 @@ def words_of_traces(part: Callable[..., ArgumentParser]) -> None:
     found = part("sort", "the trace in the order of its releases", traces.sort)
     found.add_argument("trace", metavar="TRACE", help="the trace, a CSV file")
 
+    what = "the trace with other costs: by a table of prices, or with those of some names made greater or less"
+    found = part("price", what, later("pricing", "price"), PRICE_HELP)
+    found.add_argument("trace", metavar="TRACE", help="the trace, a CSV file")
+    found.add_argument("--prices", metavar="FILE", help="the table: a CSV file of name,base,per_kib in microseconds, with a row `*` for all other names")
+    found.add_argument(
+        "--scale", action="append", metavar="NAME=F", default=[], help="make the costs of messages of this name F times as great (several times)"
+    )
+    found.add_argument("--tree", metavar="FILE", help="the hierarchy that the import wrote, whose remarks tell the bytes of a cell and the tick")
+    found.add_argument("--cell", type=number(1, 1 << 50, "number of bytes"), metavar="BYTES", help="bytes of a cell (that of the tree, or 4096)")
+    found.add_argument("--tick", type=tick, metavar="MICROSECONDS", help="microseconds in a tick (that of the tree, or 1)")
+
     found = part("stats", "what a trace has, and how much of it is over the limits of waff", later("counting", "stats"))
     found.add_argument("trace", metavar="TRACE", help="the trace, a CSV file")
 
@@ -374,48 +407,10 @@ def of_log(module: str, name: str) -> Run:
     """What is done for a log that a function of a module reads: the tree is written where one is wanted, and the answer is the trace."""
 
     def run(asked: Namespace) -> str:
-        kind = asked.clients = clients.kind_of(asked)
         read: model.Log = getattr(importlib.import_module(f"wafftrace.{module}"), name)
-        found = read(asked)
-        store, requests = found.store, found.requests
-        if not requests:
-            found.report(0)
-            raise Refusal(3, "the log has no request that is kept, so there is no trace")
-        table = prices.prices_of(asked)
-        measured = is_measured(asked, found)
-        took = prices.took_of(table)
-        loop = clients.loop_of(asked, kind, requests, took)
-        shape = model.Shape(store, requests, asked, limits.OPS if loop else limits.EARLIER_OPS)
-        messages = model.Messages(store, shape, asked, prices.Costs(table, measured, asked.tick), loop)
-        messages.add(requests)
-        text = model.tree_text(store, shape, asked.stripes)
-        found.report(len(messages.lines) - 1)
-        model.warn(messages, shape, found.logs)
-        warn_of_lost([*found.logs, *found.beside], asked.partial)
-        if asked.tree:
-            traces.write_file(asked.tree, text)
-        if asked.map:
-            traces.write_file(asked.map, model.map_text(store, shape))
-        return model.trace_text(messages)
+        return importing.trace_of(asked, read)
 
     return run
-
-
-def is_measured(asked: Namespace, found: model.Found) -> bool:
-    """Whether costs are latencies. Those of requests that were in flight together are told, and are none where sizes are better."""
-    if asked.cost not in (None, "latency"):
-        return False
-    if all(it.took is None for it in found.requests):
-        found.said.append("the log has no latencies: costs are those of sizes")
-        return False
-    found.requests.sort(key=operator.attrgetter("time"))
-    if not asked.overlaps(found.requests):
-        return True
-    if asked.cost is None and asked.prefers_size:
-        found.said.append("latencies are of requests that were in flight together, so costs are those of sizes (--cost latency takes them)")
-        return False
-    found.said.append("latencies are of requests that were in flight together, and a plan adds waits of its own: --cost size is better")
-    return True
 
 
 def write_out(text: str) -> None:

@@ -2,3 +2,4 @@ mod Answering
 mod OneAnswer
 mod OneRefusal
 mod Running
+mod Telling

@@ -48,21 +48,5 @@ answered_is_not_refused (asked.Compare k) files status text error told =
 answered_is_not_refused (asked.Rank k rule) files status text error told =
     ranked_is_not_refused rule (drop 1 files) (first files) k text error told.1
 answered_is_not_refused asked.Explain files status text error told = no_work error
-answered_is_not_refused asked.Assign files status text error told =
-    accepted_is_not_refused (first files) (second files) told.1.instance error told.1.accepts
-answered_is_not_refused (asked.Plan workers rule) files status text error told =
-    accepted_is_not_refused (first files) (second files) told.1.instance error told.1.accepts
-answered_is_not_refused (asked.Sweep given rule) files status text error told =
-    accepted_is_not_refused (first files) (second files) told.1.instance error told.1.accepts
-answered_is_not_refused (asked.Limits given rule) files status text error told =
-    accepted_is_not_refused (first files) (second files) told.1.is_told.instance error told.1.is_told.accepts
-answered_is_not_refused (asked.Where workers rule label columns) files status text error told =
-    accepted_is_not_refused (first files) (second files) told.1.instance error told.1.accepts
-answered_is_not_refused (asked.Waits workers rule grouping) files status text error told =
-    accepted_is_not_refused (first files) (second files) told.1.instance error told.1.accepts
-answered_is_not_refused (asked.Worst workers rule most) files status text error told =
-    accepted_is_not_refused (first files) (second files) told.1.instance error told.1.accepts
-answered_is_not_refused (asked.Why grouping) files status text error told =
-    accepted_is_not_refused (first files) (second files) told.1.instance error told.1.accepts
-answered_is_not_refused asked.Needs files status text error told =
+answered_is_not_refused (asked.Told what) files status text error told =
     accepted_is_not_refused (first files) (second files) told.1.instance error told.1.accepts

@@ -1,27 +1,20 @@
 -- What the program answers: which text, and with which exit status, answers what is asked of files.
 use Rattle.std.specs.Global.{Global}
-use Rattle.std.specs.Prelude.{◌≡◌, ℕ, List, [], Vec, drop, map, option_map, slice_get, unwrap_or}
+use Rattle.std.specs.Prelude.{◌≡◌, ℕ, List, None, Vec, drop, map, slice_get}
 use Rattle.waff_io.specs.Split.{after_mark, before_mark}
 use Rattle.waff_check.specs.declared.verdict.Verdict.{Verdict}
-use Rattle.waff_figures.specs.Sweep.{sweep_workers}
-use Rattle.waff_inputs.specs.Inputs.{Refuses}
+use Rattle.waff_figures.specs.declared.told.Told.TheVariants as told
+use Rattle.waff_list.specs.declared.rule.Rule.TheVariants as rule
+use Rattle.waff_inputs.specs.Inputs.{IsToldUnder, Refuses}
 use Rattle.waff_inputs.specs.declared.fault.ToolError.{ToolError}
-use Rattle.waff_tool.specs.AssignText.{IsAssignText}
 use Rattle.waff_tool.specs.CheckText.{IsCheckText, RefusesCheck, status_after, verdict_text}
 use Rattle.waff_tool.specs.Comparison.{IsCompareText, RefusesComparison}
 use Rattle.waff_tool.specs.DrawText.{IsDrawText}
 use Rattle.waff_tool.specs.Explanations.{IsExplanation, RefusesWork, status_explained}
-use Rattle.waff_tool.specs.Figures.{IsSweepText}
-use Rattle.waff_tool.specs.LimitsText.{IsLimitsText}
-use Rattle.waff_tool.specs.NeedsText.{IsNeedsText}
-use Rattle.waff_tool.specs.PlanText.{IsPlanText, IsPlanTextFor}
 use Rattle.waff_tool.specs.Ranks.{IsRankText, RefusesRank, file_at}
 use Rattle.waff_tool.specs.Rate.{IsRateText}
 use Rattle.waff_tool.specs.ReplayText.{IsReplayText, RefusesReplay}
-use Rattle.waff_tool.specs.WaitsText.{IsWaitsText}
-use Rattle.waff_tool.specs.WhereText.{IsWhereText}
-use Rattle.waff_tool.specs.WhyText.{IsWhyText}
-use Rattle.waff_tool.specs.WorstText.{IsWorstText}
+use Rattle.waff_tool.specs.Told.{Tells}
 use Rattle.waff_tool.specs.declared.draws.Picture.{Picture}
 use Rattle.waff_tool.specs.declared.draws.Picture.TheVariants as picture
 use Rattle.waff_tool.specs.declared.explains.Explained.{Explained}
@@ -52,11 +45,10 @@ picture_for drawing.Events = picture.TraceEvents
 -- the text is an answer to what is asked of the bytes of these files, and this is the exit status
 abbrev pub Answers : Asked → List (List ℕ) → ℕ → List ℕ → Type 0
 Answers asked.PlanOfInput files status text =
-    (status ≡ 0) × IsPlanText (before_mark (first files)) (after_mark (first files)) text
-Answers asked.Assign files status text =
-    (status ≡ 0) × IsAssignText (first files) (second files) text
-Answers (asked.Plan workers rule) files status text =
-    (status ≡ 0) × IsPlanTextFor rule (first files) (second files) workers text
+    (status ≡ 0) × IsToldUnder (Tells (told.Plan None rule.Arrival))
+    (before_mark (first files)) (after_mark (first files)) text
+Answers (asked.Told told) files status text =
+    (status ≡ 0) × IsToldUnder (Tells told) (first files) (second files) text
 Answers asked.Check files status text =
     (v : Verdict) × IsCheckText (first files) (second files) (third files) v
     × (text ≡ verdict_text v) × (status ≡ status_after v)
@@ -67,22 +59,6 @@ Answers (asked.Compare k) files status text =
 Answers asked.Rate files status text =
     (v : Verdict) × IsRateText (first files) (second files) (third files) v text
     × (status ≡ status_after v)
-Answers (asked.Sweep given rule) files status text =
-    (status ≡ 0) × IsSweepText rule (first files) (second files)
-    (unwrap_or (option_map (λ numbers. numbers.items) given) sweep_workers) text
-Answers (asked.Limits given rule) files status text =
-    (status ≡ 0) × IsLimitsText rule (first files) (second files)
-    (unwrap_or (option_map (λ numbers. numbers.items) given) []) text
-Answers (asked.Where workers rule label columns) files status text =
-    (status ≡ 0) × IsWhereText rule (first files) (second files) workers label columns text
-Answers (asked.Waits workers rule grouping) files status text =
-    (status ≡ 0) × IsWaitsText rule (first files) (second files) workers grouping text
-Answers (asked.Worst workers rule most) files status text =
-    (status ≡ 0) × IsWorstText rule (first files) (second files) workers most text
-Answers (asked.Why grouping) files status text =
-    (status ≡ 0) × IsWhyText (first files) (second files) grouping text
-Answers asked.Needs files status text =
-    (status ≡ 0) × IsNeedsText (first files) (second files) text
 Answers (asked.Draw drawing part) files status text =
     (status ≡ 0)
     × IsDrawText (first files) (second files) (third files) (picture_for drawing) part text

@@ -1,17 +1,19 @@
 -- How the program ends where it runs messages: the text of a run on the output, or a line that tells why there is none.
-use Rattle.std.specs.Prelude.{◌≡◌, ℕ, ◌⊎◌, List, [], ◌∷◌, ◌++◌, Option, codes, decimal, string_bytes}
+use Rattle.std.specs.Prelude.{◌≡◌, ℕ, ◌⊎◌, false, List, [], ◌∷◌, ◌++◌, Option, codes, decimal, length, string_bytes}
 use Rattle.std.specs.Io.KnownBytes.{Appends, Keeps}
-use Rattle.waff_io.specs.Writing.{AppendsPart, Tells}
+use Rattle.waff_io.specs.Writing.{AppendsPart}
 use Rattle.waff_assign.specs.Instance.{Instance}
 use Rattle.waff_inputs.specs.Fault.{fault_message, status_of}
-use Rattle.waff_inputs.specs.Inputs.{Accepts}
+use Rattle.waff_inputs.specs.Inputs.{Accepts, Refuses}
+use Rattle.waff_inputs.specs.declared.fault.ToolError.TheVariants as tool
+use Rattle.waff_run.specs.Faults.{IsOfRun}
 use Rattle.waff_run.specs.Texts.{TellRun}
 use Rattle.waff_run.specs.declared.fault.RunError.{RunError}
 use Rattle.waff_run.specs.declared.fault.RunError.TheVariants as run
-use Rattle.waff_cli.specs.declared.question.Task.{Task}
-use Rattle.waff_cli.specs.declared.question.Task.TheVariants as task
+use Rattle.waff_cli.specs.declared.task.Task.{Task}
+use Rattle.waff_cli.specs.declared.task.Task.TheVariants as task
 use Rattle.waff_answer.specs.Answers.{bytes_of, first, second}
-use Rattle.waff_answer.specs.Ends.{Ends}
+use Rattle.waff_answer.specs.Ends.{Advises, Ends}
 
 -- the text tells a run of the messages of these files by k workers: it is that of a plan for k workers that obeys, for the same
 -- messages with the costs that were measured, and this plan is what events of the machine of a run left
@@ -26,7 +28,10 @@ abbrev pub run_message : RunError → List ℕ
 run_message (run.Tool error) = fault_message error
 run_message (run.Tick m) = codes "waff: Tick " ++ decimal m ++ 10 ∷ []
 run_message run.Folder = codes "waff: Store\n"
+run_message (run.Same name) = codes "waff: Same " ++ string_bytes name ++ 10 ∷ []
+run_message (run.Foreign name) = codes "waff: Store " ++ string_bytes name ++ 10 ∷ []
 run_message (run.File name) = codes "waff: Store " ++ string_bytes name ++ 10 ∷ []
+run_message (run.Threads workers) = codes "waff: Threads " ++ decimal workers ++ 10 ∷ []
 run_message run.Run = codes "waff: Run\n"
 
 -- the exit status that tells of it
@@ -34,43 +39,59 @@ abbrev pub run_status : RunError → ℕ
 run_status (run.Tool error) = status_of error
 run_status (run.Tick m) = 3
 run_status run.Folder = 4
+run_status (run.Same name) = 3
+run_status (run.Foreign name) = 4
 run_status (run.File name) = 4
+run_status (run.Threads workers) = 4
 run_status run.Run = 4
 
--- the text of a run was written to the output, and nothing to the error stream
-pub record IsRun (hierarchy_file trace_file : List ℕ) (k : ℕ) (out new_out err new_err : Option (List ℕ))
-    (status : ℕ) : Type 0 where
+-- the error tells why the messages of these files were not run to their end: a file was refused; or both were accepted, and
+-- the error is one of a run of their messages. An allocation failure and a writer's fault tell nothing of the files
+abbrev pub RefusesRun : List ℕ → List ℕ → RunError → Type 0
+RefusesRun hierarchy_file trace_file (run.Tool error) = Refuses hierarchy_file trace_file error
+RefusesRun hierarchy_file trace_file error =
+    (instance : Instance) × Accepts hierarchy_file trace_file instance
+    × IsOfRun (length instance.trace.messages) error
+
+-- the text of a run was written to the output, and nothing but advice to the error stream
+pub record IsRun (hierarchy_file trace_file : List ℕ) (k : ℕ) (quiet : Type 0)
+    (out new_out err new_err : Option (List ℕ)) (failed : Type 0) (status : ℕ) : Type 0 where
   pub text : List ℕ
   pub is_text : IsRunText hierarchy_file trace_file k text
   pub written : Appends out new_out text
-  pub silent : Keeps err new_err
+  pub silent : Advises quiet err new_err failed []
   pub status_is : status ≡ 0
 
 -- the output has nothing, or where it failed a part of the text of a run, from its front
-abbrev pub HasPart : List ℕ → List ℕ → ℕ → Option (List ℕ) → Option (List ℕ) → Type 0
-HasPart hierarchy_file trace_file k out new_out =
+abbrev pub HasPart : List ℕ → List ℕ → ℕ → RunError → Option (List ℕ) → Option (List ℕ) → Type 0
+HasPart hierarchy_file trace_file k error out new_out =
     Keeps out new_out
-    ⊎ ((text : List ℕ) × IsRunText hierarchy_file trace_file k text × AppendsPart out new_out text)
+    ⊎ ((error ≡ run.Tool tool.Write)
+    × (text : List ℕ) × IsRunText hierarchy_file trace_file k text × AppendsPart out new_out text)
 
--- the error stream has the line of an error, unless it failed, and the status is that of the error
-pub record IsNoRun (hierarchy_file trace_file : List ℕ) (k : ℕ) (out new_out err new_err : Option (List ℕ))
-    (failed : Type 0) (status : ℕ) : Type 0 where
+-- the error stream has the line of an error that tells why there is no run, unless it failed, and the status is that of the
+-- error
+pub record IsNoRun (hierarchy_file trace_file : List ℕ) (k : ℕ) (quiet : Type 0)
+    (out new_out err new_err : Option (List ℕ)) (failed : Type 0) (status : ℕ) : Type 0 where
   pub error : RunError
-  pub part : HasPart hierarchy_file trace_file k out new_out
-  pub told : Tells err new_err failed (run_message error)
+  pub refused : RefusesRun hierarchy_file trace_file error
+  pub part : HasPart hierarchy_file trace_file k error out new_out
+  pub told : Advises quiet err new_err failed (run_message error)
   pub status_is : status ≡ run_status error
 
 -- how the program ends where it runs the messages of these files by k workers
-abbrev pub EndsRun : List ℕ → List ℕ → ℕ → Option (List ℕ) → Option (List ℕ) → Option (List ℕ)
+abbrev pub EndsRun : List ℕ → List ℕ → ℕ → Type 0 → Option (List ℕ) → Option (List ℕ) → Option (List ℕ)
     → Option (List ℕ) → Type 0 → ℕ → Type 0
-EndsRun hierarchy_file trace_file k out new_out err new_err failed status =
-    IsRun hierarchy_file trace_file k out new_out err new_err status
-    ⊎ IsNoRun hierarchy_file trace_file k out new_out err new_err failed status
+EndsRun hierarchy_file trace_file k quiet out new_out err new_err failed status =
+    IsRun hierarchy_file trace_file k quiet out new_out err new_err failed status
+    ⊎ IsNoRun hierarchy_file trace_file k quiet out new_out err new_err failed status
 
--- how it ends with what it is to do
+-- how it ends with what it is to do: where somebody reads the error stream, a question has names of its files, and a run is
+-- loud
 abbrev pub EndsTask : Task → Option (List ℕ) → Option (List ℕ) → Option (List ℕ) → Option (List ℕ) → Type 0 → ℕ → Type 0
 EndsTask (task.Question question) out new_out err new_err failed status =
-    Ends question.asked (bytes_of question.files.items) out new_out err new_err failed status
+    Ends question.asked (bytes_of question.files.items) (question.names.items ≡ [])
+    out new_out err new_err failed status
 EndsTask (task.Run wanted) out new_out err new_err failed status =
     EndsRun (first (bytes_of wanted.files.items)) (second (bytes_of wanted.files.items)) wanted.words.workers
-    out new_out err new_err failed status
+    (wanted.loud ≡ false) out new_out err new_err failed status

@@ -1,9 +1,5 @@
 //! Which command answers what is asked.
-ghost use Rattle.std.specs.Prelude.{◌≡◌, ◌<◌, ◌≤◌, ◌+◌, All, Err, IfErr, IfOk, IfSome, Ok, length};
-ghost use Rattle.std.specs.Prelude.{option_copied, option_map, slice_get, unwrap_or};
-ghost use Rattle.waff_core.specs.Seats.{IsSeats};
-ghost use Rattle.waff_figures.specs.Sweep.{sweep_workers};
-ghost use Rattle.waff_plan.specs.Bound.{IsWorkers};
+ghost use Rattle.std.specs.Prelude.{◌≡◌, Err, IfErr, IfOk, Ok, option_copied, slice_get};
 ghost use Rattle.waff_inputs.specs.Deliveries.{Delivers};
 ghost use Rattle.waff_tool.specs.CheckText.{status_after};
 ghost use Rattle.waff_tool.specs.Explanations.{status_explained};
@@ -17,10 +13,9 @@ use std::thread::Threads;
 use waff_check::Verdict;
 use waff_cli::{Asked, Drawing, Question, thread_count};
 use waff_tool::{
-    Explained, Picture, Rule, ToolError, assign_text_by_threads, check_text,
-    compare_text_by_threads, draw_text, explain_text, explained_status, limits_text, needs_text,
-    plan_text_by, rank_text, rate_text, replay_text, split_input, sweep_text, sweep_workers,
-    verdict_status, waits_text, where_text, why_text, worst_text,
+    Explained, Picture, Rule, Told, ToolError, check_text, compare_text_by_threads, draw_text,
+    explain_text, explained_status, rank_text, rate_text, replay_text, split_input, told_text,
+    verdict_status,
 };
 
 /// Writes the answer to the question, and gives the exit status.
@@ -42,12 +37,10 @@ pub fn print<R: Threads + Wait + Sync, W: Write>(
     match &question.asked {
         Asked::PlanOfInput => {
             let (hierarchy, trace) = split_input(first);
-            printed(plan_text_by(rt, alloc, hierarchy, trace, None, Rule::Arrival, out))
+            let plan = Told::Plan(None, Rule::Arrival);
+            printed(told_text(rt, alloc, hierarchy, trace, &plan, out))
         }
-        Asked::Assign => printed(assign_text_by_threads(rt, alloc, first, second, out)),
-        Asked::Plan(workers, rule) => {
-            printed(plan_text_by(rt, alloc, first, second, *workers, *rule, out))
-        }
+        Asked::Told(told) => printed(told_text(rt, alloc, first, second, told, out)),
         Asked::Check => judged(check_text(rt, alloc, first, second, third, out)),
         Asked::Replay(workers) => {
             let threads = thread_count(rt, *workers);
@@ -57,27 +50,6 @@ pub fn print<R: Threads + Wait + Sync, W: Write>(
             printed(compare_text_by_threads(rt, alloc, first, second, third, *k, out))
         }
         Asked::Rate => judged(rate_text(rt, alloc, first, second, third, out)),
-        Asked::Sweep(given, rule) => {
-            let workers = numbers_or(given, sweep_workers());
-            printed(sweep_text(rt, alloc, first, second, workers, *rule, out))
-        }
-        Asked::Limits(given, rule) => {
-            let workers = numbers_or(given, &[]);
-            printed(limits_text(rt, alloc, first, second, workers, *rule, out))
-        }
-        Asked::Where(workers, rule, label, columns) => {
-            printed(where_text(
-                rt, alloc, first, second, *workers, *rule, *label, *columns, out,
-            ))
-        }
-        Asked::Waits(workers, rule, grouping) => {
-            printed(waits_text(rt, alloc, first, second, *workers, *rule, *grouping, out))
-        }
-        Asked::Worst(workers, rule, most) => {
-            printed(worst_text(rt, alloc, first, second, *workers, *rule, *most, out))
-        }
-        Asked::Why(grouping) => printed(why_text(rt, alloc, first, second, *grouping, out)),
-        Asked::Needs => printed(needs_text(rt, alloc, first, second, out)),
         Asked::Draw(drawing, part) => {
             let picture = picture_of(*drawing);
             printed(draw_text(rt, alloc, first, second, third, picture, *part, out))
@@ -145,20 +117,6 @@ fn file_given(files: &[Vec<u8>], at: usize) -> Option<&[u8]>
     match files.get(at) {
         Some(bytes) => Some(bytes.as_slice()),
         None => None,
-    }
-}
-
-/// The numbers of workers that are given, or these.
-fn numbers_or<'a>(given: &'a Option<Vec<u32>>, usual: &'a [u32]) -> &'a [u32]
-    requires given { IfSome given.now (λ numbers. All IsWorkers numbers.items) }
-    requires usual { All IsWorkers usual.now }
-    ensures workers { All IsWorkers result.now }
-    ensures numbers { result.now
-        ≡ unwrap_or (option_map (λ numbers. numbers.items) given.now) usual.now }
-{
-    match given {
-        Some(numbers) => numbers.as_slice(),
-        None => usual,
     }
 }
 

@@ -1,59 +1,95 @@
 //! The messages run on files, and what is told of that.
-ghost use Rattle.std.specs.Prelude.{◌≡◌, ℕ, ◌⊎◌, List, IfOk, OnErr, OnOk, string_bytes};
+ghost use Rattle.std.specs.Prelude.{◌≡◌, ℕ, ◌⊎◌, ◌++◌, [], false, List, IfErr, IfOk, OnOk, length, string_bytes};
 ghost use Rattle.std.specs.Io.KnownBytes.{Appends, Keeps};
+ghost use Rattle.waff_plan.specs.Bound.{IsWorkers};
 ghost use Rattle.waff_io.specs.Writing.{AppendsPart, Tells, WritesOrFails};
-ghost use Rattle.waff_inputs.specs.Inputs.{Accepts, instance_under};
+ghost use Rattle.waff_inputs.specs.Inputs.{instance_under};
+ghost use Rattle.waff_inputs.specs.declared.fault.ToolError.TheVariants as tool;
+ghost use Rattle.waff_run.specs.Faults.{IsOfRun};
 ghost use Rattle.waff_run.specs.Texts.{TellRun};
 ghost use Rattle.waff_answer.specs.Answers.{bytes_of, first, second};
-ghost use Rattle.waff_answer.specs.Runs.{EndsRun, HasPart, IsRunText, run_message, run_status};
+ghost use Rattle.waff_answer.specs.Runs.{EndsRun, HasPart, IsRunText, RefusesRun, run_message, run_status};
+ghost use Rattle.waff_cli.specs.Advice.{advice_text};
+ghost use Rattle.waff_run.specs.declared.fault.RunError.TheVariants as run;
 
-use crate::advice::advise_run;
 use crate::answers::file;
+use crate::ending::say;
 use itoa::Buffer;
 use std::alloc::Global;
-use std::fs;
 use std::io::Write;
 use std::rt::{Clock, Files};
 use std::sync::Wait;
 use std::thread::Threads;
-use waff_cli::RunTask;
+use waff_cli::{Advice, RunFault, RunTask, advice_on_run};
 use waff_inputs::{Accepted, ToolError, accept_by_threads, fault_status, write_fault, write_text};
-use waff_io::{ErrorStream, WriteFault, write_pieces, write_whole};
+use waff_io::{ErrorStream, WriteFault, write_pieces};
 use waff_record::Recorded;
-use waff_run::{Opens, Pace, Places, RunError, Settings, planned_length, run_on};
+use waff_run::{
+    Opened, Opens, Pace, Part, Places, RunError, Settings, Site, planned_length, run_on,
+};
 
 /// Runs the messages, writes the measured trace where it is wanted, and then the plan of what happened; or says
-/// why there is none. Gives the exit status.
+/// why there is none. Gives the exit status. Where somebody reads the error stream, it has progress while the
+/// messages run, which goes past `err`, and how the run went.
 pub fn answer_run<
     R: Threads + Wait + Clock + Files + Opens + Eprint + Sync,
     W: Write,
     E: ErrorStream,
 >(rt: &R, alloc: Global, task: &RunTask, out: &mut W, err: &mut E) -> u8
     ensures { EndsRun (first (bytes_of task.now.files.items)) (second (bytes_of task.now.files.items))
-        task.now.words.workers (W.contents out.old) (W.contents out.new) (E.holds err.old)
-        (E.holds err.new) (E.failed err.new) result }
+        task.now.words.workers (task.now.loud ≡ false) (W.contents out.old) (W.contents out.new)
+        (E.holds err.old) (E.holds err.new) (E.failed err.new) result }
 {
     match write_run(rt, alloc, task, out) {
-        Ok(()) => 0,
+        Ok(advice) => {
+            say(advice.as_str(), err);
+            drop(advice);
+            0
+        }
         Err(error) => {
-            let status = tell(alloc, &error, err);
-            advise_run(rt, alloc, task, &error);
+            let advice = advice_on_run(alloc, task, fault_of(&error));
+            let status = tell(alloc, &error, advice.as_str(), err);
+            drop(advice);
             drop(error);
             status
         }
     }
 }
 
-/// Tells why there is no run, and gives the exit status. Where the error stream fails, the status has to do.
-fn tell<E: ErrorStream>(alloc: Global, error: &RunError, err: &mut E) -> u8
-    ensures told { Tells (E.holds err.old) (E.holds err.new) (E.failed err.new) (run_message error.now) }
+/// An error as advice on it goes.
+fn fault_of(error: &RunError) -> RunFault<'_> {
+    match error {
+        RunError::Tool(error) => RunFault::Tool(*error),
+        RunError::Tick(_) => RunFault::Tick,
+        RunError::Folder => RunFault::Folder,
+        RunError::Same(_) => RunFault::Same,
+        RunError::Foreign(name) => RunFault::Foreign(name.as_str()),
+        RunError::File(name) => RunFault::File(name.as_str()),
+        RunError::Threads(_) => RunFault::Threads,
+        RunError::Run => RunFault::Run,
+    }
+}
+
+/// Tells why there is no run, with what helps, and gives the exit status. Where the error stream fails, the
+/// status has to do.
+fn tell<E: ErrorStream>(alloc: Global, error: &RunError, advice: &str, err: &mut E) -> u8
+    ensures told { Tells (E.holds err.old) (E.holds err.new) (E.failed err.new)
+        (run_message error.now ++ advice.now) }
     ensures status { result ≡ run_status error.now }
 {
+    tell_line(alloc, error, advice, err);
+    status_of(error)
+}
+
+/// Writes the line of an error, and then what helps.
+fn tell_line<E: ErrorStream>(alloc: Global, error: &RunError, advice: &str, err: &mut E)
+    ensures { Tells (E.holds err.old) (E.holds err.new) (E.failed err.new)
+        (run_message error.now ++ advice.now) }
+{
     match write_line(alloc, error, err) {
-        Ok(()) => {}
+        Ok(()) => say(advice, err),
         Err(_) => {}
     }
-    status_of(error)
 }
 
 /// Writes the line of an error.
@@ -72,7 +108,17 @@ fn write_line<E: ErrorStream>(
             write_pieces(alloc, err, &["waff: Tick ", digits.format(*m), "\n"])
         }
         RunError::Folder => write_pieces(alloc, err, &["waff: Store\n"]),
+        RunError::Same(name) => write_pieces(alloc, err, &["waff: Same ", name.as_str(), "\n"]),
+        RunError::Foreign(name) => write_pieces(alloc, err, &["waff: Store ", name.as_str(), "\n"]),
         RunError::File(name) => write_pieces(alloc, err, &["waff: Store ", name.as_str(), "\n"]),
+        RunError::Threads(workers) => {
+            let mut digits = Buffer::new();
+            write_pieces(
+                alloc,
+                err,
+                &["waff: Threads ", digits.format(*workers), "\n"],
+            )
+        }
         RunError::Run => write_pieces(alloc, err, &["waff: Run\n"]),
     }
 }
@@ -85,29 +131,35 @@ fn status_of(error: &RunError) -> u8
         RunError::Tool(error) => fault_status(error),
         RunError::Tick(_) => 3,
         RunError::Folder => 4,
+        RunError::Same(_) => 3,
+        RunError::Foreign(_) => 4,
         RunError::File(_) => 4,
+        RunError::Threads(_) => 4,
         RunError::Run => 4,
     }
 }
 
-/// Runs the messages, and writes both texts.
+/// Runs the messages, and writes both texts. Gives what is told at a terminal of how the run went.
 fn write_run<R: Threads + Wait + Clock + Files + Opens + Eprint + Sync, W: Write>(
     rt: &R,
     alloc: Global,
     task: &RunTask,
     out: &mut W,
-) -> Result<(), RunError>
+) -> Result<Advice, RunError>
+    ensures quiet { IfOk result (λ advice. task.now.loud ≡ false → advice_text advice ≡ []) }
     ensures written { OnOk result ((text : List ℕ)
         × IsRunText (first (bytes_of task.now.files.items)) (second (bytes_of task.now.files.items))
         task.now.words.workers text × Appends (W.contents out.old) (W.contents out.new) text) }
-    ensures part { OnErr result (HasPart (first (bytes_of task.now.files.items))
-        (second (bytes_of task.now.files.items)) task.now.words.workers
+    ensures refused { IfErr result (RefusesRun (first (bytes_of task.now.files.items))
+        (second (bytes_of task.now.files.items))) }
+    ensures part { IfErr result (λ error. HasPart (first (bytes_of task.now.files.items))
+        (second (bytes_of task.now.files.items)) task.now.words.workers error
         (W.contents out.old) (W.contents out.new)) }
 {
     match ran(rt, alloc, task) {
-        Ok(ran) => {
-            let written = write_texts(rt, alloc, task, &ran, out);
-            drop(ran);
+        Ok(RanOnFiles { told, part }) => {
+            let written = write_texts(rt, alloc, task, &told, part, out);
+            drop(told);
             written
         }
         Err(error) => Err(error),
@@ -115,37 +167,48 @@ fn write_run<R: Threads + Wait + Clock + Files + Opens + Eprint + Sync, W: Write
 }
 
 /// Writes both texts of a run.
-fn write_texts<R: Threads + Files + Eprint + Sync, W: Write>(
+fn write_texts<R: Threads + Files + Sync, W: Write>(
     rt: &R,
     alloc: Global,
     task: &RunTask,
-    ran: &Recorded,
+    told: &Recorded,
+    part: Option<Part>,
     out: &mut W,
-) -> Result<(), RunError>
+) -> Result<Advice, RunError>
+    ensures quiet { IfOk result (λ advice. task.now.loud ≡ false → advice_text advice ≡ []) }
     ensures written { OnOk result
-        (Appends (W.contents out.old) (W.contents out.new) (string_bytes ran.now.text)) }
-    ensures part { OnErr result (Keeps (W.contents out.old) (W.contents out.new)
-        ⊎ AppendsPart (W.contents out.old) (W.contents out.new) (string_bytes ran.now.text)) }
+        (Appends (W.contents out.old) (W.contents out.new) (string_bytes told.now.text)) }
+    ensures fault { IfErr result (λ error. error ≡ run.Tool tool.Write) }
+    ensures part { IfErr result (λ _. Keeps (W.contents out.old) (W.contents out.new)
+        ⊎ AppendsPart (W.contents out.old) (W.contents out.new) (string_bytes told.now.text)) }
 {
-    match write_measured(rt, task, ran) {
+    match write_measured(rt, part, told) {
         Ok(()) => {}
         Err(error) => return Err(error),
     }
-    tell_end(rt, alloc, task, ran);
-    match write_text(out, ran.text.as_bytes()) {
-        Ok(()) => Ok(()),
+    match write_text(out, told.text.as_bytes()) {
+        Ok(()) => Ok(how_it_went(rt, alloc, task, told)),
         Err(error) => Err(RunError::Tool(error)),
     }
 }
 
+/// What is told of a run, and the file for the measured trace, where it is wanted.
+#[derive(Drop)]
+struct RanOnFiles {
+    told: Recorded,
+    part: Option<Part>,
+}
+
 /// Accepts the files, and runs the messages.
-fn ran<R: Threads + Wait + Clock + Opens + Eprint + Sync>(
+fn ran<R: Threads + Wait + Clock + Files + Opens + Eprint + Sync>(
     rt: &R,
     alloc: Global,
     task: &RunTask,
-) -> Result<Recorded, RunError>
-    ensures { IfOk result (λ ran. IsRunText (first (bytes_of task.now.files.items))
-        (second (bytes_of task.now.files.items)) task.now.words.workers (string_bytes ran.text)) }
+) -> Result<RanOnFiles, RunError>
+    ensures told { IfOk result (λ ran. IsRunText (first (bytes_of task.now.files.items))
+        (second (bytes_of task.now.files.items)) task.now.words.workers (string_bytes ran.told.text)) }
+    ensures refused { IfErr result (RefusesRun (first (bytes_of task.now.files.items))
+        (second (bytes_of task.now.files.items))) }
 {
     let files = task.files.as_slice();
     let (hierarchy, trace) = (file(files, 0), file(files, 1));
@@ -160,68 +223,102 @@ fn ran<R: Threads + Wait + Clock + Opens + Eprint + Sync>(
 }
 
 /// Opens the files of cells, and runs the messages on them.
-fn ran_on_files<R: Threads + Wait + Clock + Opens + Eprint + Sync>(
+fn ran_on_files<R: Threads + Wait + Clock + Files + Opens + Eprint + Sync>(
     rt: &R,
     alloc: Global,
     task: &RunTask,
     accepted: &Accepted,
     hierarchy: &[u8],
     trace: &[u8],
-) -> Result<Recorded, RunError>
-    ensures { IfOk result (λ ran. TellRun hierarchy.now
+) -> Result<RanOnFiles, RunError>
+    ensures told { IfOk result (λ ran. TellRun hierarchy.now
         (instance_under accepted.now.layout accepted.now.assigned accepted.now.trace)
-        task.now.words.workers (string_bytes ran.measured) (string_bytes ran.text)) }
+        task.now.words.workers (string_bytes ran.told.measured) (string_bytes ran.told.text)) }
+    ensures refused { IfErr result (IsOfRun (length accepted.now.trace.messages)) }
 {
     let words = &task.words;
     let places = Places::of(alloc, &accepted.layout, words.cell)?;
-    let store = rt.open_folder(
-        alloc,
-        words.folder.as_str(),
-        &accepted.layout,
-        &accepted.trace,
-        &places,
-    )?;
-    let settings = Settings {
+    let site = site_of(task);
+    let opened = rt.open_run(alloc, &site, &accepted.layout, &accepted.trace, &places);
+    let Opened { store, part } = match opened {
+        Ok(opened) => opened,
+        Err(error) => return Err(error),
+    };
+    let settings = settings_of(task);
+    let ran = run_on(
+        rt, alloc, accepted, hierarchy, trace, &store, &places, &settings,
+    );
+    drop(store);
+    match ran {
+        Ok(told) => Ok(RanOnFiles { told, part }),
+        Err(error) => {
+            if let Some(part) = part {
+                part.remove(rt);
+            }
+            Err(error)
+        }
+    }
+}
+
+/// Where a run reads and writes.
+fn site_of<'a>(task: &'a RunTask) -> Site<'a> {
+    Site {
+        folder: task.words.folder.as_str(),
+        over: task.words.over,
+        inputs: task.names.as_slice(),
+        measured: task.words.trace.as_deref(),
+    }
+}
+
+/// How the messages are run.
+fn settings_of<'a>(task: &'a RunTask) -> Settings<'a>
+    ensures workers { result.pace.workers ≡ task.now.words.workers }
+    ensures within { IsWorkers result.pace.workers }
+{
+    let words = &task.words;
+    Settings {
         pace: Pace {
-            workers: words.workers,
+            workers: words.workers.number(),
             tick: words.tick,
             loud: task.loud,
         },
         fill: words.fill,
         sync_writes: words.sync_writes,
         syncs: words.syncs.as_slice(),
-    };
-    run_on(
-        rt, alloc, accepted, hierarchy, trace, &store, &places, &settings,
-    )
+    }
 }
 
 /// Writes the measured trace, where it is wanted.
-fn write_measured<R: Files>(rt: &R, task: &RunTask, ran: &Recorded) -> Result<(), RunError> {
-    let Some(name) = &task.words.trace else {
+fn write_measured<R: Files>(rt: &R, part: Option<Part>, told: &Recorded) -> Result<(), RunError>
+    ensures { IfErr result (λ error. error ≡ run.Tool tool.Write) }
+{
+    let Some(part) = part else {
         return Ok(());
     };
-    let Ok(mut file) = fs::create(rt, name.as_str()) else {
-        return Err(RunError::Tool(ToolError::Write));
-    };
-    match write_whole(&mut file, ran.measured.as_bytes()) {
+    match part.keep(rt, told.measured.as_bytes()) {
         Ok(()) => Ok(()),
         Err(_) => Err(RunError::Tool(ToolError::Write)),
     }
 }
 
 /// At a terminal: how long the run was, how long the plan for its costs is, and how late messages began.
-fn tell_end<R: Threads + Eprint + Sync>(rt: &R, alloc: Global, task: &RunTask, ran: &Recorded) {
+fn how_it_went<R: Threads + Sync>(rt: &R, alloc: Global, task: &RunTask, ran: &Recorded) -> Advice
+    ensures { task.now.loud ≡ false → advice_text result ≡ [] }
+{
     if !task.loud {
-        return;
+        return Advice::Nothing;
     }
     let hierarchy = file(task.files.as_slice(), 0);
     let measured = ran.measured.as_bytes();
-    let Ok(planned) = planned_length(rt, alloc, hierarchy, measured, task.words.workers) else {
-        return;
+    let workers = task.words.workers.number();
+    let Ok(planned) = planned_length(rt, alloc, hierarchy, measured, workers) else {
+        return Advice::Nothing;
     };
     let (length, late) = (ran.tally.length, ran.tally.late);
-    let _ = rt.eprintln(format_args!(
-        "\rwaff: ran {length} ticks, planned {planned}, messages began {late} ticks late (median)"
-    ));
+    match format!(in alloc;
+        "\rwaff: ran {length} ticks, planned {planned}, messages began {late} ticks late (median)\n"
+    ) {
+        Ok(text) => Advice::Text(text),
+        Err(_) => Advice::Nothing,
+    }
 }

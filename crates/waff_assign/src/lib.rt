@@ -9,6 +9,12 @@
 //! - `case`: a trace under a tree, with these affinities.
 //! - `order`: whether two messages are an ordered pair.
 //! - `unique`: that one footprint has one lowest affinity, and one trace one assignment.
+//!
+//! Each message is assigned the lowest affinity that covers its footprint, and there is one. A case
+//! is a trace under a tree with the affinities: whoever makes one proves that there are as many
+//! affinities as messages, each of the tree.
+//!
+//! Tests: `test_worked/src/affinities.rt`, `plans.rt`.
 #![tactic(auto)]
 
 mod assigned;

@@ -1,7 +1,8 @@
 -- The verdicts on plans that tell what they are.
 use Rattle.std.proofs.Common.{◌≡◌, ℕ, ◌+◌, ◌-◌, ◌*◌, ◌<◌, ◌≤◌, ◌⊎◌, inl, inr, Bool, false, true, List, length, map, cond, Option, Some, None, refl, sym, ap, ◌∙◌, arith, subst}
 use Rattle.std.specs.Prelude.{nat_le, nat_lt, ◌&&◌}
-use Rattle.std.proofs.lemmas.Bool.{cases_eq}
+use Rattle.std.proofs.lemmas.Bool.{cases_eq, cases_lt}
+use Rattle.std.proofs.lemmas.Option.{none-some, same_Some}
 use Rattle.std.proofs.lemmas.List.{get_or-map}
 use Rattle.std.proofs.lemmas.List.FromFn.{get_or-map-range_with_len, length-map-range_with_len}
 use Rattle.waff_model.specs.Tree.{Node}
@@ -11,12 +12,12 @@ use Rattle.waff_model.specs.declared.message.Version.TheVariants.{V1, V2, V3}
 use Rattle.waff_assign.specs.Instance.{Instance, before_in}
 use Rattle.waff_assign.specs.Order.{IsOrdered}
 use Rattle.waff_plan.specs.Apart.{AreApart}
-use Rattle.waff_plan.specs.Bound.{right_side}
+use Rattle.waff_plan.specs.Bound.{left_side, right_side}
 use Rattle.waff_plan.specs.Chain.{IsChain, chain_cost, chain_release}
 use Rattle.waff_plan.specs.IssueLaws.{StartsIssued}
 use Rattle.waff_plan.specs.Issues.{IsServedBefore}
-use Rattle.waff_plan.specs.Obeys.{FollowsEarlier, Obeys}
-use Rattle.waff_plan.specs.Instances.{served_first, started_first, work_of_instance}
+use Rattle.waff_plan.specs.Obeys.{FollowsEarlier, KeepsOrder, Obeys}
+use Rattle.waff_plan.specs.Instances.{started_first, work_of_instance}
 use Rattle.waff_plan.specs.Serving.{served_before, started_before}
 use Rattle.waff_plan.specs.Timetable.{clients_of}
 use Rattle.waff_plan.specs.Unique.{AreSame}
@@ -24,6 +25,7 @@ use Rattle.waff_plan.specs.Work.{Work, IsNumber, length_of, numbers}
 use Rattle.waff_plan.specs.Workers.{running, runs_at}
 use Rattle.waff_plan.proofs.ApartLaws.{apart_where_finished, turned}
 use Rattle.waff_plan.proofs.ClientLemmas.{client_follows_earlier}
+use Rattle.waff_plan.proofs.Exclusion.{excludes_back}
 use Rattle.waff_plan.proofs.IssueOrder.{one_is_issued_first}
 use Rattle.waff_plan.proofs.Holding.{same_issue}
 use Rattle.waff_plan.proofs.Ticks.{sum_by-numbers-le}
@@ -35,13 +37,13 @@ use Rattle.waff_plan_text.specs.Spelling.{no_worker}
 use Rattle.waff_plan_text.specs.declared.row.Row.{Row}
 use Rattle.waff_check.specs.Faults.{HasWrongWorker, IsCrowded, IsMisplaced, IsTaken, NoneOf, OverlapsWhere, RunTogether}
 use Rattle.waff_check.specs.Promises.{AreOneAtATime}
-use Rattle.waff_check.specs.OwnPlans.{IsFoundShortWhere, OwnPlanIsShortest, OwnPlanIsWithinBound, claim_told}
+use Rattle.waff_check.specs.OwnPlans.{IsAccepted, IsFoundShortWhere, OwnPlanIsAccepted, OwnPlanIsShortest, OwnPlanIsWithinBound, claim_told}
 use Rattle.waff_check.specs.Shifts.{IsOneOf}
-use Rattle.waff_check.specs.Verdicts.{Claim, IsFaultless, IsFound, IsFreeBelow, IsShort, IsShortWhere, ReachesLength, IsVerdict, stage, start_in, version_of, worker_in}
+use Rattle.waff_check.specs.Verdicts.{Claim, IsFaultless, IsFound, IsFreeBelow, IsShort, IsShortWhere, KeepsBound, ReachesLength, IsVerdict, chain_in, stage, start_in, version_of, work_of_claim, worker_in, workers_in}
 use Rattle.waff_check.specs.declared.verdict.Verdict.TheVariants as verdict
 use Rattle.waff_check.proofs.LinkLaws.{chain-linked, chain-of-more}
 use Rattle.waff_check.proofs.OverlapLaws.{overlap_parts}
-use Rattle.waff_check.proofs.ServedLaws.{none_early, none_unissued, turn}
+use Rattle.waff_check.proofs.ServedLaws.{none_early, none_unissued}
 
 -- no more run at a tick under the same starts
 no_more_run : (work : Work) (start other : ℕ → ℕ) → AreSame work start other → (t : ℕ) → running work start t ≤ running work other t
@@ -107,21 +109,41 @@ issued_apart tree assigned work start long obeys i j pair =
           (obeys.ordered i j (record { first = first; second = second; precedes = before; excludes = ordered.excludes })) pair.together
       | inr (inr after) ↦
           apart_where_finished work start j i
-          (obeys.ordered j i (record { first = second; second = first; precedes = after; excludes = turn tree _ _ ordered.excludes }))
+          (obeys.ordered j i (record { first = second; second = first; precedes = after; excludes = excludes_back tree _ _ ordered.excludes }))
           (turned work start i j pair.together)
     ]
 
+-- what a plan has to keep, by the version of its trace
+abbrev KeepsFor : Version → List Node → List ℕ → Work → (ℕ → ℕ) → Type 0
+KeepsFor V1 tree assigned work start = KeepsOrder (IsOrdered tree assigned) work start
+KeepsFor V2 tree assigned work start = KeepsOrder (IsOrdered tree assigned) work start
+KeepsFor V3 tree assigned work start = AreApart (IsOrdered tree assigned) work start
+
+-- a plan that obeys the order of its version keeps that
+served_keeps : (version : Version) (tree : List Node) (assigned : List ℕ) (work : Work) (start : ℕ → ℕ) → length assigned ≡ work.count
+    → Obeys (served_before version tree assigned work start) work start → KeepsFor version tree assigned work start
+served_keeps V1 tree assigned work start long obeys = obeys.ordered
+served_keeps V2 tree assigned work start long obeys = obeys.ordered
+served_keeps V3 tree assigned work start long obeys = issued_apart tree assigned work start long obeys
+
+-- and so does one that keeps the order of its chains, and whose messages that exclude each other run at no common tick
+started_keeps : (version : Version) (tree : List Node) (assigned : List ℕ) (work : Work) (start : ℕ → ℕ)
+    → KeepsOrder (started_before version tree assigned start) work start → AreApart (IsOrdered tree assigned) work start
+    → KeepsFor version tree assigned work start
+started_keeps V1 tree assigned work start order apart = order
+started_keeps V2 tree assigned work start order apart = order
+started_keeps V3 tree assigned work start order apart = apart
+
 -- under the same starts no pair of such a plan overlaps
-none_overlap : (version : Version) (tree : List Node) (assigned : List ℕ) (work : Work) (start told : ℕ → ℕ) → length assigned ≡ work.count
-    → AreSame work told start → Obeys (served_before version tree assigned work start) work start
+none_overlap : (version : Version) (tree : List Node) (assigned : List ℕ) (work : Work) (start told : ℕ → ℕ)
+    → AreSame work told start → KeepsFor version tree assigned work start
     → (i j : ℕ) → IsNumber work i → IsNumber work j → OverlapsWhere (has_clients version) (IsOrdered tree assigned) work told i j → ⊥
-none_overlap V1 tree assigned work start told long same obeys i j first second pair =
-    omega (arith, same i first, same j second, obeys.ordered i j pair.ordered, pair.early)
-none_overlap V2 tree assigned work start told long same obeys i j first second pair =
-    omega (arith, same i first, same j second, obeys.ordered i j pair.ordered, pair.early)
-none_overlap V3 tree assigned work start told long same obeys i j first second pair =
-    issued_apart tree assigned work start long obeys i j
-    (record { ordered = pair.ordered; together = together_too work told start same i j first second pair.together })
+none_overlap V1 tree assigned work start told same order i j first second pair =
+    omega (arith, same i first, same j second, order i j pair.ordered, pair.early)
+none_overlap V2 tree assigned work start told same order i j first second pair =
+    omega (arith, same i first, same j second, order i j pair.ordered, pair.early)
+none_overlap V3 tree assigned work start told same apart i j first second pair =
+    apart i j (record { ordered = pair.ordered; together = together_too work told start same i j first second pair.together })
 
 -- and messages start in the same order
 started_too : (version : Version) (tree : List Node) (assigned : List ℕ) (work : Work) (start told : ℕ → ℕ) → length assigned ≡ work.count
@@ -179,33 +201,34 @@ module _ (instance : Instance) (workers : Option ℕ) (start : ℕ → ℕ)
       (client_follows_earlier (clients_of instance.trace.messages) work (timings_follow_clients instance.trace.messages)) tells_start
 
   -- a claim of an obeying plan with its chain has no fault
-  no_fault : length instance.assigned ≡ length instance.trace.messages → Obeys (served_first instance start) work start → IsChain (started_first instance start) work chain
+  no_fault : length instance.assigned ≡ length instance.trace.messages → StartsIssued work start
+      → KeepsFor instance.trace.version instance.tree instance.assigned work start → IsChain (started_first instance start) work chain
       → ((k : ℕ) → workers ≡ Some k → (t : ℕ) → running work start t ≤ k)
       → NoneOf (HasWrongWorker work (start_in claim) (worker_in claim.plan) workers) → IsFaultless claim
-  no_fault count obeys is_chain within manned (verdict.Overlap i j) less = λ overlap.
+  no_fault count starts keeps is_chain within manned (verdict.Overlap i j) less = λ overlap.
       let pair = (overlap_parts (has_clients instance.trace.version) (before_in instance) work (start_in claim) i j overlap).0 in
       let from : 1 ≤ i = pair.from in
       let earlier : i < j = pair.earlier in
-      none_overlap instance.trace.version instance.tree instance.assigned work start (start_in claim) (long count) tells_start obeys i j
+      none_overlap instance.trace.version instance.tree instance.assigned work start (start_in claim) tells_start keeps i j
       (record { from = from; to = omega (arith, earlier, pair.to, long count) })
       (record { from = omega (arith, from, earlier); to = omega (arith, pair.to, long count) }) overlap
-  no_fault count obeys is_chain within manned (verdict.TooManyAt tick) less =
+  no_fault count starts keeps is_chain within manned (verdict.TooManyAt tick) less =
       uncrowded work (start_in claim) workers
       (λ k is t. let few = within k is t in let same = no_more_run work (start_in claim) start tells_start t in omega (arith, few, same)) tick
-  no_fault count obeys is_chain within manned (verdict.Worker n) less = manned n
-  no_fault count obeys is_chain within manned (verdict.Affinity n) less = λ wrong.
+  no_fault count starts keeps is_chain within manned (verdict.Worker n) less = manned n
+  no_fault count starts keeps is_chain within manned (verdict.Affinity n) less = λ wrong.
       wrong.wrong (ap (λ (row : Row). row.affinity) (tells_row n wrong.number))
-  no_fault count obeys is_chain within manned (verdict.Finish n) less = λ wrong.
+  no_fault count starts keeps is_chain within manned (verdict.Finish n) less = λ wrong.
       wrong.wrong (ap (λ (row : Row). row.finish) (tells_row n wrong.number) ∙ ap (λ s. s + work.cost n) (tells_back n wrong.number))
-  no_fault count obeys is_chain within manned verdict.Totals less = totals_same workers work start (start_in claim) chain tells_back
-  no_fault count obeys is_chain within manned (verdict.NotAChain place) less =
+  no_fault count starts keeps is_chain within manned verdict.Totals less = totals_same workers work start (start_in claim) chain tells_back
+  no_fault count starts keeps is_chain within manned (verdict.NotAChain place) less =
       chain-linked (started_first instance (start_in claim)) work chain
       (chain-of-more (started_first instance start) (started_first instance (start_in claim)) work
       (started_too instance.trace.version instance.tree instance.assigned work start (start_in claim) (long count) tells_start) chain is_chain)
       place
-  no_fault count obeys is_chain within manned (verdict.Early n) less = none_early work (start_in claim) (issued obeys.issued) n
-  no_fault count obeys is_chain within manned (verdict.Client n) less = none_unissued work (start_in claim) (issued obeys.issued) n
-  no_fault count obeys is_chain within manned _ less = absurd (omega arith)
+  no_fault count starts keeps is_chain within manned (verdict.Early n) less = none_early work (start_in claim) (issued starts) n
+  no_fault count starts keeps is_chain within manned (verdict.Client n) less = none_unissued work (start_in claim) (issued starts) n
+  no_fault count starts keeps is_chain within manned _ less = absurd (omega arith)
 
 -- whether a plan is as short as any can be
 short_or_longer : (clients : Bool) (claim : Claim) → (IsShortWhere clients claim) ⊎ (IsShortWhere clients claim → ⊥)
@@ -216,6 +239,12 @@ short_or_longer true _ = cases_eq _ _
 not_shortest : (claim : Claim) → IsFaultless claim → (IsShort claim → ⊥) → IsFreeBelow claim (stage verdict.Tight)
 not_shortest claim good longer verdict.Shortest less = longer
 not_shortest claim good longer v less = good v (omega arith)
+
+not_bound : (claim : Claim) → IsFaultless claim → (IsShort claim → ⊥) → (ReachesLength claim → ⊥) → (KeepsBound claim → ⊥) → IsFreeBelow claim (stage verdict.Obeys)
+not_bound claim good longer loose far verdict.Shortest less = longer
+not_bound claim good longer loose far verdict.Tight less = loose
+not_bound claim good longer loose far verdict.WithinBound less = far
+not_bound claim good longer loose far v less = good v (omega arith)
 
 not_tight : (claim : Claim) → IsFaultless claim → (IsShort claim → ⊥) → (ReachesLength claim → ⊥) → IsFreeBelow claim (stage verdict.WithinBound)
 not_tight claim good longer loose verdict.Shortest less = longer
@@ -246,7 +275,8 @@ pub own_plan_is_shortest : (instance : Instance) (start : ℕ → ℕ) (chain : 
 own_plan_is_shortest instance start chain count obeys is_chain as_long =
     let told = claim_told instance None start no_worker chain in
     found_short told (has_clients instance.trace.version) refl
-    (no_fault instance None start no_worker chain count obeys is_chain (λ k none. absurd (cc))
+    (no_fault instance None start no_worker chain count obeys.issued
+    (served_keeps instance.trace.version instance.tree instance.assigned (work_of_instance instance) start (long instance None start no_worker chain count) obeys) is_chain (λ k none. absurd (cc))
     (no_workers (work_of_instance instance) (start_in told) (worker_in told.plan) (tells_worker instance None start no_worker chain)))
     (as_long ∙ same_length (work_of_instance instance) start (start_in told) (tells_back instance None start no_worker chain))
 
@@ -257,7 +287,8 @@ own_plan_is_within_bound instance k start worker chain count plan manned is_chai
     let all = work_of_instance instance in
     let same = tells_start instance (Some k) start worker chain in
     let good : IsFaultless told =
-    no_fault instance (Some k) start worker chain count plan.obeys is_chain
+    no_fault instance (Some k) start worker chain count plan.obeys.issued
+    (served_keeps instance.trace.version instance.tree instance.assigned all start (long instance (Some k) start worker chain count) plan.obeys) is_chain
     (λ j is t. subst (λ n. running all start t ≤ n) (some_is k j is) (plan.within t))
     (right_workers all start (start_in told) worker (worker_in told.plan) k same (tells_worker instance (Some k) start worker chain) manned) in
     let kept = subst (λ n. k * n ≤ right_side all k chain) (same_length all start (start_in told) (tells_back instance (Some k) start worker chain)) bound in
@@ -268,3 +299,51 @@ own_plan_is_within_bound instance k start worker chain count plan manned is_chai
   where
     some_is : (k j : ℕ) → Some k ≡ Some j → k ≡ j
     some_is k j is = cc
+
+-- where no fault is left, one of the verdicts that tell none holds
+verdict_of : (claim : Claim) → IsFaultless claim → IsAccepted claim
+verdict_of claim good = elim (short_or_longer (has_clients (version_of claim)) claim) [
+  | inl short ↦ record { verdict = verdict.Shortest; is_verdict = record { free = good; found = short }; no_fault = tt }
+  | inr longer ↦ elim (cases_eq (chain_release (work_of_claim claim) (chain_in claim) + chain_cost (work_of_claim claim) (chain_in claim)) (length_of (work_of_claim claim) (start_in claim))) [
+    | inl tight ↦ record { verdict = verdict.Tight; is_verdict = record { free = not_shortest claim good longer; found = tight }; no_fault = tt }
+    | inr loose ↦ by_bound (workers_in claim) refl longer loose
+  ]
+]
+  where
+    by_bound : (workers : Option ℕ) → workers_in claim ≡ workers → (IsShort claim → ⊥) → (ReachesLength claim → ⊥) → IsAccepted claim
+    by_bound None is longer loose = record {
+      verdict = verdict.Obeys;
+      is_verdict = record { free = not_bound claim good longer loose (λ kept. none-some kept.0 (sym is ∙ kept.1)); found = tt };
+      no_fault = tt;
+    }
+    by_bound (Some k) is longer loose =
+        elim (cases_lt (right_side (work_of_claim claim) k (chain_in claim)) (left_side (work_of_claim claim) k (start_in claim))) [
+          | inl more ↦ record {
+            verdict = verdict.Obeys;
+            is_verdict = record {
+              free = not_bound claim good longer loose (λ kept.
+                  let same = same_Some k kept.0 (sym is ∙ kept.1) in
+                  let bound = subst (λ n. left_side (work_of_claim claim) n (start_in claim) ≤ right_side (work_of_claim claim) n (chain_in claim)) (sym same) kept.2 in
+                  omega (arith, more, bound));
+              found = tt;
+            };
+            no_fault = tt;
+          }
+          | inr kept ↦ record {
+            verdict = verdict.WithinBound;
+            is_verdict = record { free = not_tight claim good longer loose; found = (k, is, kept) };
+            no_fault = tt;
+          }
+        ]
+
+pub own_plan_is_accepted : (instance : Instance) (k : ℕ) (start : ℕ → ℕ) (worker : ℕ → Option ℕ) (chain : List ℕ)
+    → OwnPlanIsAccepted instance k start worker chain
+own_plan_is_accepted instance k start worker chain count plan apart manned is_chain =
+    let told = claim_told instance (Some k) start worker chain in
+    let all = work_of_instance instance in
+    verdict_of told
+    (no_fault instance (Some k) start worker chain count plan.obeys.issued
+    (started_keeps instance.trace.version instance.tree instance.assigned all start plan.obeys.ordered apart) is_chain
+    (λ j is t. subst (λ n. running all start t ≤ n) (same_Some k j is) (plan.within t))
+    (right_workers all start (start_in told) worker (worker_in told.plan) k (tells_start instance (Some k) start worker chain)
+    (tells_worker instance (Some k) start worker chain) manned))

@@ -16,12 +16,9 @@ use Rattle.waff_plan.specs.Timetable.{timings_of, work_of_messages}
 use Rattle.waff_plan.specs.Timing.{no_timing}
 use Rattle.waff_plan.specs.Work.{IsAmongFirst, Work, finish_of, issue_after}
 use Rattle.waff_plan.proofs.ApartLaws.{apart_where_finished, together_where_running, turned}
+use Rattle.waff_plan.proofs.Exclusion.{excludes_back}
 use Rattle.waff_plan.proofs.TimingLemmas.{are_timings, length-timings_of}
 use Rattle.waff_check.specs.Faults.{NoneOf, Overlaps, OverlapsWhere, StartsEarly, StartsUnissued}
-
-pub turn : (tree : List Node) (a b : ℕ) → Excludes tree a b → Excludes tree b a
-turn tree a b (inl above) = inr above
-turn tree a b (inr below) = inl below
 
 -- each message runs at a tick
 abbrev pub AllRun : Work → List ℕ → Type 0
@@ -48,7 +45,7 @@ module _ (tree : List Node) (assigned : List ℕ) (work : Work) (start : ℕ →
           | inl same ↦ absurd (let later : start i < start j = before.precedes in let none : start j < start j = rw same at later in omega (arith, none))
           | inr (inl less) ↦ absurd (apart i j (record { ordered = record { from = before.first.from; earlier = less; to = before.second.to; excludes = before.excludes }; together = together }))
           | inr (inr more) ↦ absurd (apart j i (record {
-            ordered = record { from = before.second.from; earlier = more; to = before.first.to; excludes = turn tree (affinity_of assigned i) (affinity_of assigned j) before.excludes };
+            ordered = record { from = before.second.from; earlier = more; to = before.first.to; excludes = excludes_back tree (affinity_of assigned i) (affinity_of assigned j) before.excludes };
             together = turned work start i j together;
           }))
         ]

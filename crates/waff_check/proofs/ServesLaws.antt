@@ -11,7 +11,8 @@ use Rattle.waff_plan.specs.ServesAs.{ServesAs}
 use Rattle.waff_plan.specs.Serving.{started_before}
 use Rattle.waff_plan.specs.Work.{IsAmongFirst, Work, finish_of}
 use Rattle.waff_plan.proofs.ApartLaws.{apart_where_finished, together_where_running, turned}
-use Rattle.waff_check.proofs.ServedLaws.{AllRun, turn}
+use Rattle.waff_plan.proofs.Exclusion.{excludes_back}
+use Rattle.waff_check.proofs.ServedLaws.{AllRun}
 
 first_of : (tree : List Node) (assigned : List ℕ) (i j : ℕ) → IsOrdered tree assigned i j → IsAmongFirst (length assigned) i
 first_of tree assigned i j pair =
@@ -61,7 +62,7 @@ module _ (tree : List Node) (assigned : List ℕ) (work : Work) (start : ℕ →
       first = second_of tree assigned i j pair;
       second = first_of tree assigned i j pair;
       precedes = more;
-      excludes = turn tree (affinity_of assigned i) (affinity_of assigned j) pair.excludes;
+      excludes = excludes_back tree (affinity_of assigned i) (affinity_of assigned j) pair.excludes;
     })
   ]
 
@@ -76,7 +77,7 @@ module _ (tree : List Node) (assigned : List ℕ) (work : Work) (start : ℕ →
       from = before.second.from;
       earlier = more;
       to = before.first.to;
-      excludes = turn tree (affinity_of assigned i) (affinity_of assigned j) before.excludes;
+      excludes = excludes_back tree (affinity_of assigned i) (affinity_of assigned j) before.excludes;
     })
   ]
 

@@ -2,7 +2,8 @@
 use Rattle.std.specs.Prelude.{◌≡◌, ℕ, ◌+◌, ◌⊎◌, Bool, false, true, List, length, Option, Some, None}
 use Rattle.waff_model.specs.Versions.{has_clients}
 use Rattle.waff_model.specs.declared.message.Version.{Version}
-use Rattle.waff_assign.specs.Instance.{Instance}
+use Rattle.waff_assign.specs.Instance.{Instance, before_in}
+use Rattle.waff_plan.specs.Apart.{AreApart}
 use Rattle.waff_plan.specs.Bound.{IsWithinBound}
 use Rattle.waff_plan.specs.Chain.{IsChain, chain_cost, chain_release}
 use Rattle.waff_plan.specs.Instances.{served_first, started_first, work_of_instance}
@@ -11,8 +12,10 @@ use Rattle.waff_plan.specs.Work.{length_of}
 use Rattle.waff_plan.specs.Workers.{IsWorkerPlan}
 use Rattle.waff_plan_text.specs.Laws.{plan_told}
 use Rattle.waff_plan_text.specs.Spelling.{no_worker}
+use Rattle.waff_check.specs.Promises as promises
 use Rattle.waff_check.specs.Promises.{AreOneAtATime}
 use Rattle.waff_check.specs.Verdicts.{Claim, IsVerdict, claim_of}
+use Rattle.waff_check.specs.declared.verdict.Verdict.{Verdict}
 use Rattle.waff_check.specs.declared.verdict.Verdict.TheVariants as verdict
 
 -- the claim of a plan that tells these starts, workers and chain as they are
@@ -20,6 +23,12 @@ abbrev pub claim_told : Instance → Option ℕ → (ℕ → ℕ) → (ℕ → O
 claim_told instance workers start worker chain =
     claim_of instance (plan_told instance.trace.version instance.tree instance.assigned
     (work_of_instance instance) workers start worker chain)
+
+-- the check finds no fault in a plan
+pub record IsAccepted (claim : Claim) : Type 0 where
+  pub verdict : Verdict
+  pub is_verdict : IsVerdict claim verdict
+  pub no_fault : promises.Accepts verdict
 
 -- a plan is found as short as it can be: shortest, or where messages have clients tight
 abbrev pub IsFoundShortWhere : Bool → Claim → Type 0
@@ -51,3 +60,14 @@ OwnPlanIsWithinBound instance k start worker chain =
     → IsWithinBound (work_of_instance instance) k start chain
     → IsFoundShort instance.trace.version (claim_told instance (Some k) start worker chain)
     ⊎ IsVerdict (claim_told instance (Some k) start worker chain) verdict.WithinBound
+
+-- a worker plan for k with its workers and a chain, which obeys in the order of its chains, and in which no two messages
+-- that exclude each other run at a common tick, is accepted
+abbrev pub OwnPlanIsAccepted : Instance → ℕ → (ℕ → ℕ) → (ℕ → Option ℕ) → List ℕ → Type 0
+OwnPlanIsAccepted instance k start worker chain =
+    length instance.assigned ≡ length instance.trace.messages
+    → IsWorkerPlan (started_first instance start) (work_of_instance instance) k start
+    → AreApart (before_in instance) (work_of_instance instance) start
+    → AreOneAtATime (work_of_instance instance) start worker k
+    → IsChain (started_first instance start) (work_of_instance instance) chain
+    → IsAccepted (claim_told instance (Some k) start worker chain)

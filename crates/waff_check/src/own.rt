@@ -3,7 +3,7 @@
 
 ghost use Rattle.std.specs.Prelude.{ℕ, List, Option};
 ghost use Rattle.waff_assign.specs.Instance.{Instance};
-ghost use Rattle.waff_check.specs.OwnPlans.{OwnPlanIsShortest, OwnPlanIsWithinBound};
+ghost use Rattle.waff_check.specs.OwnPlans.{OwnPlanIsAccepted, OwnPlanIsShortest, OwnPlanIsWithinBound};
 
 /// A plan that obeys the order of its version and tells a chain as long as itself is found shortest, or
 /// in the third version tight.
@@ -18,4 +18,12 @@ pub fn own_plan_is_within_bound()
     ensures verdict { (instance : Instance) (k : ℕ)
         (start : ℕ → ℕ) (worker : ℕ → Option ℕ) (chain : List ℕ)
         → OwnPlanIsWithinBound instance k start worker chain }
+{}
+
+/// A worker plan that obeys in the order in which it starts messages, whichever it issues first, and that tells a chain, is
+/// found without fault.
+pub fn own_plan_is_accepted()
+    ensures verdict { (instance : Instance) (k : ℕ)
+        (start : ℕ → ℕ) (worker : ℕ → Option ℕ) (chain : List ℕ)
+        → OwnPlanIsAccepted instance k start worker chain }
 {}

@@ -1,24 +1,16 @@
 -- What the words of the command line ask for.
-use Rattle.std.specs.Prelude.{◌≤◌, ◌+◌, ℕ, All, IfSome}
+use Rattle.std.specs.Prelude.{◌≤◌, ◌+◌, ℕ, IfSome}
 use Rattle.waff_core.specs.Seats.{IsSeats}
-use Rattle.waff_plan.specs.Bound.{IsWorkers}
+use Rattle.waff_figures.specs.declared.told.Told.TheVariants as told
 use Rattle.waff_inputs.specs.declared.inputs.TheConstants.{MAX_RANKED}
 use Rattle.waff_cli.specs.declared.commands.TheConstants.{MAX_WORST}
 use Rattle.waff_cli.specs.declared.words.Asked.{Asked}
 use Rattle.waff_cli.specs.declared.words.Asked.TheVariants as asked
 
--- where a plan, or something of one, is asked for for a number of workers, and where a replay is,
--- that number is within the limits, and so is each number of a sweep; of messages of the greatest
--- latency there is one at least
+-- where a replay is asked for for a number of threads, that number is within the limits; of messages
+-- of the greatest latency there is one at least. Numbers of workers are so by their type
 abbrev pub IsWithinLimits : Asked → Type 0
-IsWithinLimits (asked.Plan workers rule) = IfSome workers IsWorkers
-IsWithinLimits (asked.Waits workers rule grouping) = IfSome workers IsWorkers
-IsWithinLimits (asked.Sweep given rule) = IfSome given (λ numbers. All IsWorkers numbers.items)
-IsWithinLimits (asked.Limits given rule) = IfSome given (λ numbers. All IsWorkers numbers.items)
-IsWithinLimits (asked.Where workers rule label columns) = IfSome workers IsWorkers
-IsWithinLimits (asked.Worst workers rule most) = IfSome workers IsWorkers × (1 ≤ most) × (most ≤ MAX_WORST)
-IsWithinLimits (asked.Compare k) = IsWorkers k
-IsWithinLimits (asked.Rank k rule) = IsWorkers k
+IsWithinLimits (asked.Told (told.Worst workers rule most)) = (1 ≤ most) × (most ≤ MAX_WORST)
 IsWithinLimits (asked.Replay workers) = IfSome workers IsSeats
 IsWithinLimits asked = Unit {0}
 

@@ -1,11 +1,12 @@
 -- What the words of a command ask for, by what the parser found of them.
-use Rattle.std.specs.Prelude.{◌≡◌, ℕ, ◌^◌, ◌<◌, Bool, true, false, List, [], Option, Some, None, Vec}
-use Rattle.std.specs.Prelude.{codes, if◌then◌else◌, map, option_and_then, option_map}
-use Rattle.std.specs.Global.{Global}
+use Rattle.std.specs.Prelude.{◌≡◌, ◌==◌, ◌+◌, ◌*◌, ◌-◌, ◌^◌, ℕ, Bool, true, false, List, [], Option, Some, None}
+use Rattle.std.specs.Prelude.{codes, if◌then◌else◌, length, map, option_and_then, option_map, string_bytes, unwrap_or}
+use Rattle.std.specs.List.{after_first, before_first}
+use Rattle.std.specs.Option.{option_map_or}
 use Rattle.std.specs.Str.{bytes_eq}
-use Rattle.std.specs.Str.Parse.{IsNumeral, digits_value, without_leading_plus}
-use Rattle.clap.specs.Words.{first_value, matched_of, one_text, raw_values}
-use Rattle.clap.specs.declared.parser.matches.Found.{Found}
+use Rattle.std.specs.Str.Parse.{digits_value, without_leading_plus}
+use Rattle.clap.specs.Words.{Row, all_of, first_of, found_of, one_of, rows_of}
+use Rattle.clap.specs.declared.parser.matches.ArgMatches.{ArgMatches}
 use Rattle.waff_draw.specs.declared.parts.Part.{Part}
 use Rattle.waff_figures.specs.declared.grouping.Columns.{Columns}
 use Rattle.waff_figures.specs.declared.grouping.Columns.TheVariants as columns
@@ -13,12 +14,20 @@ use Rattle.waff_figures.specs.declared.grouping.Grouping.{Grouping}
 use Rattle.waff_figures.specs.declared.grouping.Grouping.TheVariants as grouping
 use Rattle.waff_figures.specs.declared.grouping.Label.{Label}
 use Rattle.waff_figures.specs.declared.grouping.Label.TheVariants as label
+use Rattle.waff_figures.specs.declared.told.Told.{Told}
+use Rattle.waff_figures.specs.declared.told.Told.TheVariants as told
 use Rattle.waff_list.specs.declared.rule.Rule.{Rule}
 use Rattle.waff_list.specs.declared.rule.Rule.TheVariants as rule
+use Rattle.waff_cli.specs.declared.run_words.RunWords.{RunWords}
+use Rattle.waff_cli.specs.declared.run_words.TheConstants.{CELL, TICK}
 use Rattle.waff_cli.specs.declared.words.Asked.{Asked}
 use Rattle.waff_cli.specs.declared.words.Asked.TheVariants as asked
 use Rattle.waff_cli.specs.declared.words.Drawing.{Drawing}
 use Rattle.waff_cli.specs.declared.words.Drawing.TheVariants as drawing
+
+-- what was found of the words of one command: for each option and file its words
+abbrev pub rows_in : ArgMatches → List Row
+rows_in matches = rows_of (found_of matches)
 
 -- the rule that a word names
 abbrev pub rule_named : List ℕ → Option Rule
@@ -52,88 +61,107 @@ columns_for false = columns.Costs
 abbrev pub number_of : List ℕ → ℕ
 number_of word = digits_value 10 (without_leading_plus word)
 
--- a word is read as a number of so many bits
-abbrev pub IsReadAs : ℕ → List ℕ → Option ℕ → Type 0
-IsReadAs bits word (Some number) =
-    IsNumeral 10 (without_leading_plus word) × (number_of word < 2 ^ bits)
-    × (number ≡ number_of word)
-IsReadAs bits word None =
-    ¬ (IsNumeral 10 (without_leading_plus word) × (number_of word < 2 ^ bits))
+-- the number that the word of an option spells, where it is given
+abbrev pub number_in : List Row → List ℕ → Option ℕ
+number_in rows id = option_map number_of (one_of id rows)
 
--- an option with a number is given, or it is not
-pub record IsNumberGiven (bits : ℕ) (found : Found) (id : List ℕ) (number : Option ℕ)
-    : Type 0 where
-  pub none : one_text found id ≡ None → number ≡ None
-  pub read : (word : List ℕ) → one_text found id ≡ Some word → IsReadAs bits word number
+abbrev pub workers_in : List Row → Option ℕ
+workers_in rows = number_in rows (codes "workers")
 
-abbrev pub IsWorkersGiven : Found → Option ℕ → Type 0
-IsWorkersGiven found workers = IsNumberGiven 32 found (codes "workers") workers
+-- each of the words of `--workers` is a number
+abbrev pub swept_in : List Row → Option (List ℕ)
+swept_in rows = option_map (map number_of) (all_of (codes "workers") rows)
 
--- each of the words is read as a number
-abbrev pub IsSweepGiven : Found → Option (Vec ℕ Global) → Type 0
-IsSweepGiven found given =
-    option_map (λ numbers. numbers.items) given
-    ≡ option_map (map number_of) (option_map raw_values (matched_of found (codes "workers")))
+-- an option without a word is given
+abbrev pub is_set : List Row → List ℕ → Bool
+is_set rows id = option_map_or (λ word. bytes_eq word (codes "true")) (first_of id rows) false
 
-pub record IsPartGiven (found : Found) (part : Part) : Type 0 where
-  pub begins : IsNumberGiven 64 found (codes "from") (Some part.from)
-  pub ends : IsNumberGiven 64 found (codes "to") part.to
+abbrev pub rule_in : List Row → Option Rule
+rule_in rows = option_and_then rule_named (first_of (codes "rule") rows)
 
--- an option without a word is given, or it is not
-pub record IsFlag (found : Found) (id : List ℕ) (given : Bool) : Type 0 where
-  pub none : one_text found id ≡ None → given ≡ false
-  pub yes : one_text found id ≡ Some (codes "true") → given ≡ true
-  pub no : one_text found id ≡ Some (codes "false") → given ≡ false
+abbrev pub drawing_in : List Row → Option Drawing
+drawing_in rows = option_and_then drawing_named (first_of (codes "as") rows)
 
-abbrev pub IsRuleGiven : Found → Rule → Type 0
-IsRuleGiven found rule = option_and_then rule_named (first_value found (codes "rule")) ≡ Some rule
+abbrev pub label_in : List Row → Option Label
+label_in rows = label_for (is_set rows (codes "names")) (is_set rows (codes "clients"))
 
-abbrev pub IsDrawingGiven : Found → Drawing → Type 0
-IsDrawingGiven found drawing =
-    option_and_then drawing_named (first_value found (codes "as")) ≡ Some drawing
+abbrev pub grouping_in : List Row → Grouping
+grouping_in rows = grouping_for (is_set rows (codes "names"))
 
-abbrev pub IsLabelGiven : Found → Option Label → Type 0
-IsLabelGiven found label =
-    (names : Bool) × (clients : Bool) × IsFlag found (codes "names") names
-    × IsFlag found (codes "clients") clients × (label ≡ label_for names clients)
+abbrev pub columns_in : List Row → Columns
+columns_in rows = columns_for (is_set rows (codes "figures"))
 
-abbrev pub IsGroupingGiven : Found → Grouping → Type 0
-IsGroupingGiven found grouping =
-    (names : Bool) × IsFlag found (codes "names") names × (grouping ≡ grouping_for names)
+pub record IsPartGiven (rows : List Row) (part : Part) : Type 0 where
+  pub begins : Some part.from ≡ number_in rows (codes "from")
+  pub ends : part.to ≡ number_in rows (codes "to")
 
-abbrev pub IsColumnsGiven : Found → Columns → Type 0
-IsColumnsGiven found columns =
-    (figures : Bool) × IsFlag found (codes "figures") figures × (columns ≡ columns_for figures)
+-- the words of this command ask what is told of a trace under a hierarchy
+abbrev pub IsToldAsked : List ℕ → List Row → Told → Type 0
+IsToldAsked command rows told.Assign = command ≡ codes "assign"
+IsToldAsked command rows (told.Plan workers rule) =
+    (command ≡ codes "plan") × (workers ≡ workers_in rows) × (rule_in rows ≡ Some rule)
+IsToldAsked command rows told.Needs = command ≡ codes "needs"
+IsToldAsked command rows (told.Sweep given rule) =
+    (command ≡ codes "sweep") × (option_map (λ numbers. numbers.items) given ≡ swept_in rows)
+    × (rule_in rows ≡ Some rule)
+IsToldAsked command rows (told.Limits given rule) =
+    (command ≡ codes "limits") × (option_map (λ numbers. numbers.items) given ≡ swept_in rows)
+    × (rule_in rows ≡ Some rule)
+IsToldAsked command rows (told.Where workers rule label columns) =
+    (command ≡ codes "where") × (workers ≡ workers_in rows) × (rule_in rows ≡ Some rule)
+    × (label ≡ label_in rows) × (columns ≡ columns_in rows)
+IsToldAsked command rows (told.Waits workers rule grouping) =
+    (command ≡ codes "waits") × (workers ≡ workers_in rows) × (rule_in rows ≡ Some rule)
+    × (number_in rows (codes "worst") ≡ None) × (grouping ≡ grouping_in rows)
+IsToldAsked command rows (told.Worst workers rule most) =
+    (command ≡ codes "waits") × (workers ≡ workers_in rows) × (rule_in rows ≡ Some rule)
+    × (number_in rows (codes "worst") ≡ Some most) × (grouping_in rows ≡ grouping.Affinity)
+IsToldAsked command rows (told.Why grouping) =
+    (command ≡ codes "why") × (grouping ≡ grouping_in rows)
 
 -- the words of this command ask for this
-abbrev pub IsAsked : List ℕ → Found → Asked → Type 0
-IsAsked command found asked.PlanOfInput = command ≡ []
-IsAsked command found asked.Assign = command ≡ codes "assign"
-IsAsked command found (asked.Plan workers rule) =
-    (command ≡ codes "plan") × IsWorkersGiven found workers × IsRuleGiven found rule
-IsAsked command found asked.Check = command ≡ codes "check"
-IsAsked command found (asked.Replay workers) =
-    (command ≡ codes "replay") × IsWorkersGiven found workers
-IsAsked command found (asked.Compare k) =
-    (command ≡ codes "compare") × IsWorkersGiven found (Some k)
-IsAsked command found asked.Rate = command ≡ codes "rate"
-IsAsked command found (asked.Sweep given rule) =
-    (command ≡ codes "sweep") × IsSweepGiven found given × IsRuleGiven found rule
-IsAsked command found (asked.Limits given rule) =
-    (command ≡ codes "limits") × IsSweepGiven found given × IsRuleGiven found rule
-IsAsked command found (asked.Where workers rule label columns) =
-    (command ≡ codes "where") × IsWorkersGiven found workers × IsRuleGiven found rule
-    × IsLabelGiven found label × IsColumnsGiven found columns
-IsAsked command found (asked.Waits workers rule grouping) =
-    (command ≡ codes "waits") × IsWorkersGiven found workers × IsRuleGiven found rule
-    × IsNumberGiven 32 found (codes "worst") None × IsGroupingGiven found grouping
-IsAsked command found (asked.Worst workers rule most) =
-    (command ≡ codes "waits") × IsWorkersGiven found workers × IsRuleGiven found rule
-    × IsNumberGiven 32 found (codes "worst") (Some most) × IsGroupingGiven found grouping.Affinity
-IsAsked command found (asked.Why grouping) = (command ≡ codes "why") × IsGroupingGiven found grouping
-IsAsked command found asked.Needs = command ≡ codes "needs"
-IsAsked command found (asked.Draw drawing part) =
-    (command ≡ codes "draw") × IsDrawingGiven found drawing × IsPartGiven found part
-IsAsked command found (asked.Rank k rule) =
-    (command ≡ codes "rank") × IsWorkersGiven found (Some k) × IsRuleGiven found rule
-IsAsked command found asked.Explain = command ≡ codes "explain"
+abbrev pub IsAsked : List ℕ → List Row → Asked → Type 0
+IsAsked command rows asked.PlanOfInput = ⊥
+IsAsked command rows (asked.Told told) = IsToldAsked command rows told
+IsAsked command rows asked.Check = command ≡ codes "check"
+IsAsked command rows (asked.Replay workers) =
+    (command ≡ codes "replay") × (workers ≡ workers_in rows)
+IsAsked command rows (asked.Compare k) =
+    (command ≡ codes "compare") × (Some k ≡ workers_in rows)
+IsAsked command rows asked.Rate = command ≡ codes "rate"
+IsAsked command rows (asked.Draw drawing part) =
+    (command ≡ codes "draw") × (drawing_in rows ≡ Some drawing) × IsPartGiven rows part
+IsAsked command rows (asked.Rank k rule) =
+    (command ≡ codes "rank") × (Some k ≡ workers_in rows) × (rule_in rows ≡ Some rule)
+IsAsked command rows asked.Explain = command ≡ codes "explain"
+
+-- this is asked by what was found of all words: by a command, or without one
+abbrev pub IsAskedBy : Option (List ℕ × List Row) → Asked → Type 0
+IsAskedBy None what = what ≡ asked.PlanOfInput
+IsAskedBy (Some command) what = IsAsked command.0 command.1 what
+
+-- the nanoseconds of a number of microseconds, by what stands before its point and behind it
+abbrev pub nanoseconds_of : List ℕ → List ℕ → ℕ
+nanoseconds_of whole part = number_of whole * 1000 + number_of part * 10 ^ (3 - length part)
+
+-- the nanoseconds of microseconds, which a word spells with a point or without one
+abbrev pub tick_of : List ℕ → ℕ
+tick_of word =
+    nanoseconds_of (before_first (λ byte. byte == 46) word) (after_first (λ byte. byte == 46) word)
+
+-- the words of `run` say that messages are run so
+pub record IsRunGiven (rows : List Row) (words : RunWords) : Type 0 where
+  pub folder : Some (string_bytes words.folder) ≡ first_of (codes "DIR") rows
+  pub trace : option_map string_bytes words.trace ≡ first_of (codes "trace") rows
+  pub workers : Some words.workers ≡ workers_in rows
+  pub cell : words.cell ≡ unwrap_or (number_in rows (codes "cell")) CELL
+  pub tick : words.tick ≡ option_map_or tick_of (first_of (codes "tick") rows) TICK
+  pub over : words.over ≡ is_set rows (codes "over")
+  pub fill : words.fill ≡ is_set rows (codes "fill")
+  pub sync_writes : words.sync_writes ≡ is_set rows (codes "sync-writes")
+  pub syncs : map string_bytes words.syncs.items ≡ unwrap_or (all_of (codes "sync") rows) []
+
+-- messages are to be run so, by what was found of all words
+abbrev pub IsRunBy : Option (List ℕ × List Row) → RunWords → Type 0
+IsRunBy None words = ⊥
+IsRunBy (Some command) words = (command.0 ≡ codes "run") × IsRunGiven command.1 words

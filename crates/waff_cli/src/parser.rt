@@ -1,9 +1,9 @@
 //! The parser of the table of commands.
 use crate::commands::{
-    COMMANDS, CommandWords, FileWord, MAX_SWEPT, MAX_WORST, PICTURES, RULES, RunWord, Word,
+    CommandWords, FileWord, MAX_SWEPT, MAX_WORST, PICTURES, RULES, RunWord, Word,
 };
-use crate::help;
 use crate::run_words::MAX_CELL;
+use crate::{help, table};
 use clap::{Arg, ArgAction, Command, value_parser};
 use std::alloc::{AllocError, Global};
 use waff_core::limits::MAX_SEATS;
@@ -22,40 +22,47 @@ pub struct ProgramVersion {
     pub long: &'static str,
 }
 
-/// The parser of all commands.
-pub fn parser<'a>(alloc: Global, version: ProgramVersion) -> Result<Command<'a>, AllocError> {
+/// The parser of all commands. The help of the program ends with these, the short one and the long one.
+pub fn parser<'a>(
+    alloc: Global,
+    version: ProgramVersion,
+    short: &'a str,
+    long: &'a str,
+) -> Result<Command<'a>, AllocError> {
     let mut commands = Vec::new(alloc);
     push_commands(alloc, &mut commands)?;
-    waff(alloc, version).subcommands(commands)
+    waff(alloc, version, short, long).subcommands(commands)
 }
 
 /// Appends the parsers of the commands.
 fn push_commands<'a>(alloc: Global, commands: &mut Vec<Command<'a>>) -> Result<(), AllocError> {
-    for words in COMMANDS.iter() {
-        commands.push(command(alloc, words)?)?;
+    for place in 0..table::COUNT {
+        if let Some(words) = table::command(place) {
+            commands.push(command(alloc, words)?)?;
+        }
     }
     Ok(())
 }
 
 /// The parser of the program without its commands.
-fn waff<'a>(alloc: Global, version: ProgramVersion) -> Command<'a> {
+fn waff<'a>(alloc: Global, version: ProgramVersion, short: &'a str, long: &'a str) -> Command<'a> {
     Command::new(alloc, "waff")
         .version(version.short)
         .long_version(version.long)
         .about("Plans messages on a tree of affinities, and shows how much can run in parallel")
         .subcommand_help_heading("Begin with")
-        .after_help(help::WAFF_SHORT)
-        .after_long_help(help::WAFF)
+        .after_help(short)
+        .after_long_help(long)
 }
 
 /// The parser of a command.
-fn command<'a>(alloc: Global, words: &'static CommandWords) -> Result<Command<'a>, AllocError> {
+fn command<'a>(alloc: Global, words: CommandWords) -> Result<Command<'a>, AllocError> {
     let mut args = Vec::new(alloc);
     push_args(alloc, words.words, &mut args)?;
     Command::new(alloc, words.name)
         .about(words.about)
-        .hide(!words.is_first)
-        .after_long_help(help::of(words.name))
+        .hide(words.group.is_some())
+        .after_long_help(words.help)
         .args(args)
 }
 
@@ -74,7 +81,9 @@ fn push_args<'a>(
 /// A word of a command.
 fn arg<'a>(alloc: Global, word: Word) -> Arg<'a> {
     match word {
-        Word::File(word) => file(alloc, word),
+        Word::File(word) => file(alloc, word).required(true),
+        Word::FileOrNone(word) => file(alloc, word),
+        Word::Files(word) => files(alloc, word),
         Word::PlanWorkers(required) => plan_workers(alloc, required),
         Word::SweepWorkers => sweep_workers(alloc),
         Word::Threads => threads(alloc),
@@ -108,6 +117,11 @@ fn run_arg<'a>(alloc: Global, word: RunWord) -> Arg<'a> {
             "Microseconds of a tick, from 0.001 [default: 1]",
         )
         .value_name("MICROSECONDS"),
+        RunWord::Over => flag(
+            alloc,
+            "over",
+            "Writes over files that no run of waff has made",
+        ),
         RunWord::Fill => flag(alloc, "fill", "Reads all cells and writes them back first"),
         RunWord::SyncWrites => flag(
             alloc,
@@ -129,15 +143,17 @@ fn run_arg<'a>(alloc: Global, word: RunWord) -> Arg<'a> {
 
 /// A word for a file.
 fn file<'a>(alloc: Global, word: FileWord) -> Arg<'a> {
-    let arg = Arg::new(alloc, word.id)
+    Arg::new(alloc, word.id)
         .value_name(word.name)
-        .required(word.required)
-        .help(word.help);
-    if word.repeated {
-        arg.num_args(1..).action(ArgAction::Append)
-    } else {
-        arg
-    }
+        .help(word.help)
+}
+
+/// A word for one file or more.
+fn files<'a>(alloc: Global, word: FileWord) -> Arg<'a> {
+    file(alloc, word)
+        .required(true)
+        .num_args(1..)
+        .action(ArgAction::Append)
 }
 
 /// An option of this name.

@@ -1,46 +1,20 @@
-//! What the program is asked: its words are read, and then the files that they name.
-ghost use Rattle.std.specs.Prelude.{length};
-ghost use Rattle.waff_cli.specs.Limits.{within_limits-prop};
-ghost use Rattle.waff_cli.specs.Requests.{IsWithinLimits, TakesFiles};
+//! The words are read, and then the files that they name.
+ghost use Rattle.std.specs.Prelude.{◌≡◌, ℕ, IfOk, List, map, string_bytes};
+ghost use Rattle.clap.specs.Words.{subcommand_rows_of};
+ghost use Rattle.waff_cli.specs.Tasks.{IsTask, IsTaskOfWords};
 
 use crate::files::{Told, read_files};
-use crate::parser::ProgramVersion;
+use crate::help::ending;
+use crate::parser::{ProgramVersion, parser};
 use crate::refusal::Refusal;
-use crate::run_words::RunWords;
-use crate::words::{Asked, Request, RunRequest, Wanted, read_words};
+use crate::requests::{Request, RunRequest, Wanted};
+use crate::task::{Question, RunTask, Task};
+use crate::words::{Asked, wanted_of};
+use clap::ArgMatches;
 use std::alloc::{AllocError, Global};
 use std::rt::Runtime;
 use std::{env, io};
 use waff_io::ErrorStream;
-
-/// What is asked for, and the bytes of the files of which it is asked, in the order of the words.
-#[derive(Drop)]
-pub struct Question {
-    pub asked: Asked,
-    pub files: Vec<Vec<u8>>,
-    /// The names of the files where somebody reads standard error, else none.
-    pub names: Vec<String>,
-    ghost limits: { IsWithinLimits asked } by { within_limits-prop asked },
-    ghost taken: { TakesFiles asked (length files.items) },
-}
-
-/// What the program is to do: to answer a question, or to run messages.
-#[derive(Drop)]
-pub enum Task {
-    Question(Question),
-    Run(RunTask),
-}
-
-/// Messages to be run, and the bytes of the hierarchy and of the trace.
-#[derive(Drop)]
-pub struct RunTask {
-    pub words: RunWords,
-    pub files: Vec<Vec<u8>>,
-    /// The names of the files where somebody reads standard error, else none.
-    pub names: Vec<String>,
-    /// Whether somebody reads standard error.
-    pub loud: bool,
-}
 
 /// Which standard streams are those of a terminal.
 #[derive(Clone, Copy)]
@@ -65,10 +39,13 @@ pub fn read_task<R: Runtime + AllocGlobal, E: ErrorStream>(
     version: ProgramVersion,
     terminals: Terminals,
     err: &mut E,
-) -> Result<Task, Refusal> {
+) -> Result<Task, Refusal>
+    ensures { IfOk result (λ task. (words : List (List ℕ)) × IsTaskOfWords words task) }
+{
     match read_words_and_files(rt, version, terminals, err) {
+        Ok(task) => Ok(task),
         Err(Refusal::Memory) if terminals.error => Err(Refusal::no_memory(rt, rt.alloc(), err)),
-        read => read,
+        Err(refusal) => Err(refusal),
     }
 }
 
@@ -78,9 +55,11 @@ fn read_words_and_files<R: Runtime + AllocGlobal, E: ErrorStream>(
     version: ProgramVersion,
     terminals: Terminals,
     err: &mut E,
-) -> Result<Task, Refusal> {
+) -> Result<Task, Refusal>
+    ensures { IfOk result (λ task. (words : List (List ℕ)) × IsTaskOfWords words task) }
+{
     let words = words_of(rt)?;
-    let task = task_of(rt, rt.alloc(), version, words.as_slice(), terminals, err);
+    let task = task_of_words(rt, rt.alloc(), version, words.as_slice(), terminals, err);
     drop(words);
     task
 }
@@ -94,21 +73,58 @@ fn words_of<R: Runtime + AllocGlobal>(rt: &R) -> Result<Vec<String>, Refusal> {
     }
 }
 
-/// What these words want done, with the files that they name.
-fn task_of<R: Runtime, E: ErrorStream>(
+/// What these words want done, the program's own name first, with the files that they name. Where they
+/// are refused, or ask for help, that is printed, and the refusal has the exit status; it is loud where
+/// standard error is a terminal.
+pub fn task_of_words<R: Runtime, E: ErrorStream>(
     rt: &R,
     alloc: Global,
     version: ProgramVersion,
     words: &[String],
     terminals: Terminals,
     err: &mut E,
-) -> Result<Task, Refusal> {
-    match read_words(rt, alloc, version, words, terminals.error) {
+) -> Result<Task, Refusal>
+    ensures { IfOk result (IsTaskOfWords (map string_bytes words.now)) }
+{
+    let (short, long) = (ending(alloc, false)?, ending(alloc, true)?);
+    let parser = parser(alloc, version, short.trim_start(), long.trim_start())?;
+    match parser.try_get_matches_from(words) {
+        Ok(matches) => {
+            let task = task_of(rt, alloc, &matches, terminals, err);
+            drop(matches);
+            task
+        }
+        Err(error) => Err(Refusal::of(rt, alloc, &error, command_of(words), terminals.error)),
+    }
+}
+
+/// The word for the command, where there is one.
+fn command_of(words: &[String]) -> &str {
+    match words.get(1) {
+        Some(word) => word.as_str(),
+        None => "",
+    }
+}
+
+/// What the words want done of which this was found, with the files that they name.
+pub fn task_of<R: Runtime, E: ErrorStream>(
+    rt: &R,
+    alloc: Global,
+    matches: &ArgMatches<'_>,
+    terminals: Terminals,
+    err: &mut E,
+) -> Result<Task, Refusal>
+    ensures { IfOk result (IsTask (subcommand_rows_of matches.now)) }
+{
+    match wanted_of(rt, alloc, matches) {
         Ok(Wanted::Answer(request)) => match question_of(rt, alloc, request, terminals, err) {
             Ok(question) => Ok(Task::Question(question)),
             Err(refusal) => Err(refusal),
         },
-        Ok(Wanted::Run(request)) => run_of(rt, alloc, request, terminals, err),
+        Ok(Wanted::Run(request)) => match run_of(rt, alloc, request, terminals, err) {
+            Ok(run) => Ok(Task::Run(run)),
+            Err(refusal) => Err(refusal),
+        },
         Err(refusal) => Err(refusal),
     }
 }
@@ -120,24 +136,27 @@ fn run_of<R: Runtime, E: ErrorStream>(
     request: RunRequest<'_>,
     terminals: Terminals,
     err: &mut E,
-) -> Result<Task, Refusal> {
+) -> Result<RunTask, Refusal>
+    ensures { IfOk result (λ run. run.words ≡ request.entry.words) }
+{
     let RunRequest {
         words,
         files: names,
     } = request;
-    let kept = kept_names(alloc, names.as_slice(), terminals)?;
+    let mut kept = Vec::new(alloc);
+    push_copies(alloc, names.as_slice(), &mut kept)?;
     let waiting = if terminals.input {
         Some(FOR_A_FILE)
     } else {
         None
     };
     match read_files(rt, alloc, names.as_slice(), waiting) {
-        Ok(files) => Ok(Task::Run(RunTask {
+        Ok(files) => Ok(RunTask {
             words,
             files,
             names: kept,
             loud: terminals.error,
-        })),
+        }),
         Err(unread) => Err(unread.refusal(rt, alloc, told(false, terminals), err)),
     }
 }
@@ -149,7 +168,9 @@ fn question_of<R: Runtime, E: ErrorStream>(
     request: Request<'_>,
     terminals: Terminals,
     err: &mut E,
-) -> Result<Question, Refusal> {
+) -> Result<Question, Refusal>
+    ensures { IfOk result (λ question. question.asked ≡ request.entry.asked) }
+{
     let Request {
         asked,
         files: names,

@@ -63,7 +63,7 @@ impl Refusal {
         if error.print(rt).is_err() && !error.use_stderr() {
             let _ = rt.eprintln("waff: Write");
             if loud {
-                let _ = rt.eprintln(NOT_WRITTEN);
+                let _ = rt.eprint(NOT_WRITTEN);
             }
             return Refusal::Told(FAILED);
         }
@@ -132,7 +132,7 @@ impl Refusal {
         err: &mut E,
     ) -> Refusal {
         let status = Refusal::Memory.report(alloc, err);
-        let _ = rt.eprintln(NO_MEMORY);
+        let _ = rt.eprint(NO_MEMORY);
         Refusal::Told(status)
     }
 }

@@ -1,10 +1,17 @@
 //! The words of `run`.
-ghost use Rattle.waff_plan.specs.Bound.{IsWorkers};
+ghost use Rattle.std.specs.Prelude.{◌≡◌, ◌==◌, IfOk, IfSome, Some, codes, map, option_map, string_bytes};
+ghost use Rattle.std.specs.Prelude.{unwrap_or, []};
+ghost use Rattle.std.specs.Option.{option_map_or};
+ghost use Rattle.clap.specs.Words.{all_of, first_of};
+ghost use Rattle.waff_cli.specs.Words as asks;
+ghost use Rattle.waff_cli.specs.Words.{IsRunGiven, rows_in, tick_of, workers_in};
 
 use crate::files::INPUT;
+use crate::found::{flag_in, number_in, word_in, words_in};
 use crate::refusal::Refusal;
 use clap::ArgMatches;
 use std::alloc::{AllocError, Global};
+use waff_plan::Workers;
 
 /// How the messages of a trace are run.
 #[derive(Drop)]
@@ -13,62 +20,86 @@ pub struct RunWords {
     pub folder: String,
     /// The file for the trace with the measured costs, where it is wanted.
     pub trace: Option<String>,
-    pub workers: u32,
+    pub workers: Workers,
     /// Bytes of a cell.
     pub cell: u32,
     /// Nanoseconds of a tick.
     pub tick: u64,
+    /// Whether files that no run has made are written over.
+    pub over: bool,
     /// Whether each cell that the trace names is read and written back first.
     pub fill: bool,
     /// Whether the files that a message has written are synced at its end.
     pub sync_writes: bool,
     /// The names of messages at whose end the files of their cells are synced.
     pub syncs: Vec<String>,
-    ghost limits: { IsWorkers workers },
 }
 
 /// The bytes of a cell where they are not given.
-const CELL: u32 = 4_096;
+pub const CELL: u32 = 4_096;
 
 /// The most bytes of a cell.
 pub(crate) const MAX_CELL: u32 = 1_048_576;
 
 /// The nanoseconds of a tick where they are not given.
-const TICK: u64 = 1_000;
+pub const TICK: u64 = 1_000;
 
 /// The words of `run` for this many workers.
 pub fn run_words(
     rt: &impl Eprint,
     alloc: Global,
-    matches: &ArgMatches<'_>,
-    workers: u32,
+    found: &ArgMatches<'_>,
+    workers: Workers,
 ) -> Result<RunWords, Refusal>
-    requires { IsWorkers workers }
+    requires { Some workers ≡ workers_in (rows_in found.now) }
+    ensures { IfOk result (IsRunGiven (rows_in found.now)) }
 {
-    let cell = cell_of(rt, matches)?;
-    let tick = tick_of(rt, matches)?;
-    let trace = match matches.get_str("trace") {
-        Some(word) => Some(word.to_string(alloc)?),
-        None => None,
-    };
+    let cell = cell_of(rt, found)?;
+    let tick = tick_in_words(rt, found)?;
+    let over = flag_in(found, "over");
+    let fill = flag_in(found, "fill");
+    let sync_writes = flag_in(found, "sync-writes");
     Ok(RunWords {
-        folder: matches.get_str("DIR").unwrap_or("").to_string(alloc)?,
-        trace,
+        folder: folder_of(alloc, found)?,
+        trace: trace_of(alloc, found)?,
         workers,
         cell,
         tick,
-        fill: matches.get_flag("fill"),
-        sync_writes: matches.get_flag("sync-writes"),
-        syncs: names_of(alloc, matches)?,
+        over,
+        fill,
+        sync_writes,
+        syncs: names_of(alloc, found)?,
     })
 }
 
+/// The folder of the files of cells.
+fn folder_of(alloc: Global, found: &ArgMatches<'_>) -> Result<String, Refusal>
+    ensures { IfOk result (λ folder. Some (string_bytes folder)
+        ≡ first_of (codes "DIR") (rows_in found.now)) }
+{
+    match word_in(found, "DIR") {
+        Some(word) => Ok(word.to_string(alloc)?),
+        None => Err(Refusal::NoWords),
+    }
+}
+
+/// The file for the trace with the measured costs.
+fn trace_of(alloc: Global, found: &ArgMatches<'_>) -> Result<Option<String>, AllocError>
+    ensures { IfOk result (λ trace. option_map string_bytes trace
+        ≡ first_of (codes "trace") (rows_in found.now)) }
+{
+    match word_in(found, "trace") {
+        Some(word) => Ok(Some(word.to_string(alloc)?)),
+        None => Ok(None),
+    }
+}
+
 /// The bytes of a cell.
-fn cell_of(rt: &impl Eprint, matches: &ArgMatches<'_>) -> Result<u32, Refusal> {
-    let cell = match matches.get_one::<u32>("cell") {
-        Some(cell) => cell,
-        None => CELL,
-    };
+fn cell_of(rt: &impl Eprint, found: &ArgMatches<'_>) -> Result<u32, Refusal>
+    ensures { IfOk result (λ cell. cell
+        ≡ unwrap_or (asks.number_in (rows_in found.now) (codes "cell")) CELL) }
+{
+    let cell = number_in(found, "cell")?.unwrap_or(CELL);
     if cell < 8 || cell > MAX_CELL || cell % 8 != 0 {
         return Err(Refusal::because(rt, "'--cell' takes a multiple of 8, from 8 to 1048576"));
     }
@@ -76,50 +107,54 @@ fn cell_of(rt: &impl Eprint, matches: &ArgMatches<'_>) -> Result<u32, Refusal> {
 }
 
 /// The nanoseconds of a tick.
-fn tick_of(rt: &impl Eprint, matches: &ArgMatches<'_>) -> Result<u64, Refusal> {
-    let given = match matches.get_str("tick") {
-        Some(word) => nanoseconds(word),
-        None => Some(TICK),
-    };
-    match given {
-        Some(tick) => Ok(tick),
-        None => Err(Refusal::because(
-            rt,
-            "'--tick' takes 0.001 to 1000000 microseconds, with at most three digits behind the point",
-        )),
+fn tick_in_words(rt: &impl Eprint, found: &ArgMatches<'_>) -> Result<u64, Refusal>
+    ensures { IfOk result (λ tick. tick
+        ≡ option_map_or tick_of (first_of (codes "tick") (rows_in found.now)) TICK) }
+{
+    match word_in(found, "tick") {
+        Some(word) => match nanoseconds(word) {
+            Some(tick) => Ok(tick),
+            None => Err(Refusal::because(rt, NO_TICK)),
+        },
+        None => Ok(TICK),
     }
 }
 
+/// Why a word is no tick.
+const NO_TICK: &str =
+    "'--tick' takes 0.001 to 1000000 microseconds, with at most three digits behind the point";
+
 /// The names that `--sync` gives.
-fn names_of(alloc: Global, matches: &ArgMatches<'_>) -> Result<Vec<String>, AllocError> {
-    let mut names = Vec::new(alloc);
-    if let Some(words) = matches.get_strs("sync") {
-        for word in words {
-            names.push(word.to_string(alloc)?)?;
-        }
+fn names_of(alloc: Global, found: &ArgMatches<'_>) -> Result<Vec<String>, AllocError>
+    ensures { IfOk result (λ names. map string_bytes names.items
+        ≡ unwrap_or (all_of (codes "sync") (rows_in found.now)) []) }
+{
+    match words_in(found, "sync") {
+        Some(words) => copies_of(alloc, words),
+        None => Ok(Vec::new(alloc)),
     }
-    Ok(names)
+}
+
+/// Copies of these words.
+fn copies_of(alloc: Global, words: &[&str]) -> Result<Vec<String>, AllocError>
+    ensures { IfOk result (λ copies. map string_bytes copies.items
+        ≡ map (λ word. word.now) words.now) }
+{
+    let mut copies = Vec::new(alloc);
+    for word in words {
+        copies.push(word.to_string(alloc)?)?;
+    }
+    Ok(copies)
 }
 
 /// The nanoseconds of a number of microseconds, with at most three digits behind the point.
-fn nanoseconds(word: &str) -> Option<u64> {
-    let (whole, part) = match word.split_once('.') {
-        Some((whole, part)) => (whole, part),
-        None => (word, "000"),
+fn nanoseconds(word: &str) -> Option<u64>
+    ensures { IfSome result (λ nanos. nanos ≡ tick_of word.now) }
+{
+    let nanos = match word.split_once('.') {
+        Some((whole, part)) => nanoseconds_of(whole, part)?,
+        None => nanoseconds_of(word, "0")?,
     };
-    if part.is_empty() || part.len() > 3 || whole.is_empty() || whole.len() > 7 {
-        return None;
-    }
-    let mut nanos = 0u64;
-    for digit in whole.bytes() {
-        nanos = with_digit(nanos, digit)?;
-    }
-    for digit in part.bytes() {
-        nanos = with_digit(nanos, digit)?;
-    }
-    for _ in part.len()..3 {
-        nanos = nanos.saturating_mul(10);
-    }
     if nanos >= 1 && nanos <= 1_000_000_000 {
         Some(nanos)
     } else {
@@ -127,14 +162,29 @@ fn nanoseconds(word: &str) -> Option<u64> {
     }
 }
 
-/// A number with one more digit.
-fn with_digit(number: u64, digit: u8) -> Option<u64> {
-    if digit.is_ascii_digit() {
-        Some(
-            number
-                .saturating_mul(10)
-                .saturating_add(u64::from(digit - b'0')),
-        )
+/// The nanoseconds of so many microseconds, by the digits before the point and behind it.
+fn nanoseconds_of(whole: &str, part: &str) -> Option<u64>
+    ensures { IfSome result (λ nanos. nanos ≡ asks.nanoseconds_of whole.now part.now) }
+{
+    if whole.len() > 7 {
+        return None;
+    }
+    let scale = match part.len() {
+        1 => 100,
+        2 => 10,
+        3 => 1,
+        _ => return None,
+    };
+    let part = digits(part)?.checked_mul(scale)?;
+    digits(whole)?.checked_mul(1_000)?.checked_add(part)
+}
+
+/// The number of these digits.
+fn digits(word: &str) -> Option<u64>
+    ensures { IfSome result (λ number. number ≡ asks.number_of word.now) }
+{
+    if word.bytes().all(|byte| byte.is_ascii_digit()) {
+        word.parse::<u64>().ok()
     } else {
         None
     }

@@ -4,10 +4,10 @@ use std::alloc::{AllocError, Global};
 
 /// Below the fault `Write`.
 pub const NOT_WRITTEN: &str =
-    "what is printed could not be written: the output is full, or was closed";
+    "what is printed could not be written: the output is full, or was closed\n";
 
 /// Below the fault `Memory`.
-pub const NO_MEMORY: &str = "the system gave no more memory";
+pub const NO_MEMORY: &str = "the system gave no more memory\n";
 
 /// What `clap` says of options for a file of output, which no command has.
 static OUTPUTS: [&str; 3] = [

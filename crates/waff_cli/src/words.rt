@@ -1,94 +1,50 @@
-//! The words of the command line, read.
-ghost use Rattle.std.specs.Prelude.{◌≡◌, ◌≤◌, All, IfOk, IfSome, Some, codes, length, map};
-ghost use Rattle.waff_plan.specs.Bound.{IsWorkers};
-ghost use Rattle.waff_core.specs.Seats.{IsSeats};
-ghost use Rattle.waff_cli.specs.Limits.{within_limits-prop};
-ghost use Rattle.clap.specs.Words.{found_of};
+//! What the words of the command line ask for.
+ghost use Rattle.std.specs.Prelude.{◌≡◌, ◌≤◌, IfOk, IfSome, Some, codes, map, option_map};
+ghost use Rattle.clap.specs.Words.{subcommand_rows_of};
 ghost use Rattle.waff_cli.specs.Requests as requests;
-ghost use Rattle.waff_cli.specs.Requests.{IsWithinLimits, TakesFiles};
+ghost use Rattle.waff_cli.specs.Requests.{IsWithinLimits};
+ghost use Rattle.waff_cli.specs.Tasks.{IsWanted};
 ghost use Rattle.waff_cli.specs.Words as asks;
-ghost use Rattle.waff_cli.specs.Words.{IsAsked, IsColumnsGiven, IsDrawingGiven, IsGroupingGiven};
-ghost use Rattle.waff_cli.specs.Words.{IsLabelGiven, IsNumberGiven, IsPartGiven, IsRuleGiven, IsSweepGiven};
-ghost use Rattle.waff_cli.specs.Words.{IsWorkersGiven};
+ghost use Rattle.waff_cli.specs.Words.{IsAsked, IsPartGiven, columns_in, drawing_in};
+ghost use Rattle.waff_cli.specs.Words.{grouping_in, label_in, rows_in, rule_in, swept_in, workers_in};
 
 use crate::commands::{FILE_WORDS, MAX_SWEPT, MAX_WORST};
 use crate::files::INPUT;
-use crate::parser::{ProgramVersion, parser};
+use crate::found::{command_in, flag_in, number_in, tick_in, word_in, words_in};
 use crate::refusal::Refusal;
-use crate::run_words::{RunWords, run_words};
+use crate::requests::{Request, RunRequest, Wanted};
+use crate::run_words::run_words;
 use clap::ArgMatches;
 use std::alloc::{AllocError, Global};
 use waff_core::limits::MAX_SEATS;
 use waff_draw::Part;
-use waff_figures::{Columns, Grouping, Label};
+use waff_figures::{Columns, Grouping, Label, Told};
 use waff_inputs::MAX_RANKED;
 use waff_list::Rule;
 use waff_model::limits::MAX_WORKERS;
-
-/// What the words ask for: an answer to what is asked of files, or a run of messages.
-#[derive(Drop)]
-pub enum Wanted<'a> {
-    Answer(Request<'a>),
-    Run(RunRequest<'a>),
-}
-
-/// A run that the words ask for.
-#[derive(Drop)]
-pub struct RunRequest<'a> {
-    pub words: RunWords,
-    /// The names of the hierarchy and of the trace.
-    pub files: Vec<&'a str>,
-}
-
-/// What the words ask of files.
-#[derive(Drop)]
-pub struct Request<'a> {
-    pub asked: Asked,
-    /// The names of the files, in the order of the words. The name `-` is standard input.
-    pub files: Vec<&'a str>,
-    ghost limits: { IsWithinLimits asked } by { within_limits-prop asked },
-    ghost taken: { TakesFiles asked (length files.items) },
-}
+use waff_plan::Workers;
 
 /// What is asked for of the files.
 #[derive(Drop)]
 pub enum Asked {
     /// No words: the plan of the hierarchy and the trace in one file, standard input.
     PlanOfInput,
-    Assign,
-    /// A plan for this number of workers by this rule, or without a limit where there is no number.
-    Plan(Option<u32>, Rule),
+    /// What is told of a trace under a hierarchy.
+    Told(Told),
     /// The verdict on the plan.
     Check,
     /// The state that the trace leaves, replayed by this number of workers, or by as many as there
     /// are processors where there is no number.
     Replay(Option<u32>),
     /// Two hierarchies compared, for this number of workers.
-    Compare(u32),
+    Compare(Workers),
     /// How good the plan is.
     Rate,
-    /// How long the trace takes by this rule, for each of these numbers of workers, or for the usual
-    /// ones.
-    Sweep(Option<Vec<u32>>, Rule),
-    /// What limits the trace, also for each of these numbers of workers, by this rule.
-    Limits(Option<Vec<u32>>, Rule),
-    /// Where the time goes, in the plan for this number of workers by this rule or in that without a
-    /// limit, by the names or the clients of messages, or without either by affinity.
-    Where(Option<u32>, Rule, Option<Label>, Columns),
-    /// Who waits for whom, in the plan for this number of workers by this rule or in that without a
-    /// limit, by affinity or by the names of messages too.
-    Waits(Option<u32>, Rule, Grouping),
-    /// So many messages of the greatest latency, in one of these plans.
-    Worst(Option<u32>, Rule, u32),
-    /// Why messages run above the owner of their first cell, by their names too or not.
-    Why(Grouping),
-    /// For which earlier messages each message has to wait.
-    Needs,
     /// This part of the plan drawn as this picture.
     Draw(Drawing, Part),
     /// How several hierarchies serve the trace, for this number of workers by this rule. The trace
     /// comes first.
-    Rank(u32, Rule),
+    Rank(Workers, Rule),
     /// The first fault, or the verdict, of a hierarchy, of a trace where there is one, and of a
     /// plan where there is one.
     Explain,
@@ -102,56 +58,59 @@ pub enum Drawing {
     Events,
 }
 
-/// Reads the words, the program's own name first. Where they are refused, or ask for help, that is
-/// printed, and the refusal has the exit status; it is loud where standard error is a terminal.
-pub fn read_words<'a, R: Print + Eprint>(
-    rt: &R,
-    alloc: Global,
-    version: ProgramVersion,
-    words: &'a [String],
-    loud: bool,
-) -> Result<Wanted<'a>, Refusal> {
-    match parser(alloc, version)?.try_get_matches_from(words) {
-        Ok(matches) => wanted_of(rt, alloc, &matches),
-        Err(error) => Err(Refusal::of(rt, alloc, &error, command_of(words), loud)),
-    }
-}
-
-/// The word for the command, where there is one.
-fn command_of(words: &[String]) -> &str {
-    match words.get(1) {
-        Some(word) => word.as_str(),
-        None => "",
-    }
-}
-
-/// What the words ask for that were found.
-fn wanted_of<'a>(
+/// What the words ask for of which this was found.
+pub fn wanted_of<'a>(
     rt: &impl Eprint,
     alloc: Global,
     matches: &ArgMatches<'a>,
-) -> Result<Wanted<'a>, Refusal> {
-    if let Some((command, matches)) = matches.subcommand() {
-        if command == "run" {
-            return run_of(rt, alloc, matches);
+) -> Result<Wanted<'a>, Refusal>
+    ensures { IfOk result (IsWanted (subcommand_rows_of matches.now)) }
+{
+    match command_in(matches) {
+        Some((command, found)) => wanted_by(rt, alloc, command, found),
+        None => {
+            let request = asked_of_files(Asked::PlanOfInput, input_alone(alloc)?)?;
+            Ok(Wanted::Answer(request))
         }
     }
-    match request_of(rt, alloc, matches) {
+}
+
+/// What the words of this command ask for.
+fn wanted_by<'a>(
+    rt: &impl Eprint,
+    alloc: Global,
+    command: &str,
+    found: &ArgMatches<'a>,
+) -> Result<Wanted<'a>, Refusal>
+    ensures { IfOk result (IsWanted (Some (command.now, rows_in found.now))) }
+{
+    if command == "run" {
+        return run_of(rt, alloc, found);
+    }
+    match request_of(rt, alloc, command, found) {
         Ok(request) => Ok(Wanted::Answer(request)),
         Err(refusal) => Err(refusal),
     }
 }
 
-/// The run that the words ask for.
+/// The run that the words ask for, of files that `--trace` may not write over.
 fn run_of<'a>(
     rt: &impl Eprint,
     alloc: Global,
-    matches: &ArgMatches<'a>,
-) -> Result<Wanted<'a>, Refusal> {
-    let workers = wanted_workers(matches)?;
-    let words = run_words(rt, alloc, matches, workers)?;
-    match file_names(rt, alloc, matches) {
-        Ok(files) => run_of_files(rt, words, files),
+    found: &ArgMatches<'a>,
+) -> Result<Wanted<'a>, Refusal>
+    ensures { IfOk result (IsWanted (Some (codes "run", rows_in found.now))) }
+{
+    let words = run_words(rt, alloc, found, wanted_workers(found)?)?;
+    match file_names(rt, alloc, found) {
+        Ok(files) => match words.trace_fault(files.as_slice()) {
+            None => Ok(Wanted::Run(RunRequest { words, files })),
+            Some(why) => {
+                drop(files);
+                drop(words);
+                Err(Refusal::because(rt, why))
+            }
+        },
         Err(refusal) => {
             drop(words);
             Err(refusal)
@@ -159,46 +118,29 @@ fn run_of<'a>(
     }
 }
 
-/// The run of these files, which `--trace` may not write over.
-fn run_of_files<'a>(
-    rt: &impl Eprint,
-    words: RunWords,
-    files: Vec<&'a str>,
-) -> Result<Wanted<'a>, Refusal> {
-    match words.trace_fault(files.as_slice()) {
-        None => Ok(Wanted::Run(RunRequest { words, files })),
-        Some(why) => {
-            drop(files);
-            drop(words);
-            Err(Refusal::because(rt, why))
-        }
-    }
-}
-
-/// What they ask of files.
+/// What the words of this command ask of files.
 fn request_of<'a>(
     rt: &impl Eprint,
     alloc: Global,
-    matches: &ArgMatches<'a>,
-) -> Result<Request<'a>, Refusal> {
-    match matches.subcommand() {
-        Some((command, matches)) => {
-            let asked = asked_of(rt, alloc, command, matches)?;
-            match file_names(rt, alloc, matches) {
-                Ok(files) => asked_of_files(asked, files),
-                Err(refusal) => {
-                    drop(asked);
-                    Err(refusal)
-                }
-            }
+    command: &str,
+    found: &ArgMatches<'a>,
+) -> Result<Request<'a>, Refusal>
+    ensures { IfOk result (λ request. IsAsked command.now (rows_in found.now) request.asked) }
+{
+    let asked = asked_of(rt, alloc, command, found)?;
+    match file_names(rt, alloc, found) {
+        Ok(files) => asked_of_files(asked, files),
+        Err(refusal) => {
+            drop(asked);
+            Err(refusal)
         }
-        None => asked_of_files(Asked::PlanOfInput, input_alone(alloc)?),
     }
 }
 
 /// What is asked for of these files, which have to be as many as it takes.
 fn asked_of_files<'a>(asked: Asked, files: Vec<&'a str>) -> Result<Request<'a>, Refusal>
     requires { IsWithinLimits asked }
+    ensures { IfOk result (λ request. request.asked ≡ asked) }
 {
     let (least, most) = files_taken(&asked);
     let count = files.len();
@@ -241,63 +183,63 @@ fn asked_of(
     rt: &impl Eprint,
     alloc: Global,
     command: &str,
-    matches: &ArgMatches<'_>,
+    found: &ArgMatches<'_>,
 ) -> Result<Asked, Refusal>
     ensures limits { IfOk result IsWithinLimits }
-    ensures asked { IfOk result (IsAsked command.now (found_of matches.now)) }
+    ensures asked { IfOk result (IsAsked command.now (rows_in found.now)) }
 {
     match command {
-        "assign" => Ok(Asked::Assign),
+        "assign" => Ok(Asked::Told(Told::Assign)),
         "check" => Ok(Asked::Check),
         "explain" => Ok(Asked::Explain),
-        "needs" => Ok(Asked::Needs),
+        "needs" => Ok(Asked::Told(Told::Needs)),
         "rate" => Ok(Asked::Rate),
-        "why" => Ok(Asked::Why(grouping(matches))),
-        "replay" => Ok(Asked::Replay(workers(matches, MAX_SEATS)?)),
-        "compare" => Ok(Asked::Compare(wanted_workers(matches)?)),
-        "draw" => Ok(Asked::Draw(drawn_as(matches)?, part_of(rt, matches)?)),
-        _ => asked_by_rule(rt, alloc, command, matches),
+        "why" => Ok(Asked::Told(Told::Why(grouping(found)))),
+        "replay" => Ok(Asked::Replay(number_within(found, "workers", MAX_SEATS)?)),
+        "compare" => Ok(Asked::Compare(wanted_workers(found)?)),
+        "draw" => Ok(Asked::Draw(drawn_as(found)?, part_of(rt, found)?)),
+        "rank" => Ok(Asked::Rank(wanted_workers(found)?, rule_of(found)?)),
+        _ => told_by_rule(rt, alloc, command, found),
     }
 }
 
 /// What the words of a command ask for by whose rule messages start.
-fn asked_by_rule(
+fn told_by_rule(
     rt: &impl Eprint,
     alloc: Global,
     command: &str,
-    matches: &ArgMatches<'_>,
+    found: &ArgMatches<'_>,
 ) -> Result<Asked, Refusal>
     ensures limits { IfOk result IsWithinLimits }
-    ensures asked { IfOk result (IsAsked command.now (found_of matches.now)) }
+    ensures asked { IfOk result (IsAsked command.now (rows_in found.now)) }
 {
-    let rule = rule_of(matches)?;
+    let rule = rule_of(found)?;
     match command {
-        "plan" => Ok(Asked::Plan(workers(matches, MAX_WORKERS)?, rule)),
-        "sweep" => Ok(Asked::Sweep(swept_workers(rt, alloc, matches)?, rule)),
-        "limits" => Ok(Asked::Limits(swept_workers(rt, alloc, matches)?, rule)),
+        "plan" => Ok(Asked::Told(Told::Plan(workers(found)?, rule))),
+        "sweep" => Ok(Asked::Told(Told::Sweep(swept_workers(rt, alloc, found)?, rule))),
+        "limits" => Ok(Asked::Told(Told::Limits(swept_workers(rt, alloc, found)?, rule))),
         "where" => {
-            let workers = workers(matches, MAX_WORKERS)?;
-            let label = label(rt, matches)?;
-            Ok(Asked::Where(workers, rule, label, columns(matches)))
+            let workers = workers(found)?;
+            let label = label(rt, found)?;
+            Ok(Asked::Told(Told::Where(workers, rule, label, columns(found))))
         }
-        "waits" => waits(rt, matches, rule),
-        "rank" => Ok(Asked::Rank(wanted_workers(matches)?, rule)),
+        "waits" => waits(rt, found, rule),
         _ => Err(Refusal::NoWords),
     }
 }
 
 /// What the words of `waits` ask for: who waits for whom, or the messages of the greatest latency.
-fn waits(rt: &impl Eprint, matches: &ArgMatches<'_>, rule: Rule) -> Result<Asked, Refusal>
-    requires { IsRuleGiven (found_of matches.now) rule }
+fn waits(rt: &impl Eprint, found: &ArgMatches<'_>, rule: Rule) -> Result<Asked, Refusal>
+    requires { rule_in (rows_in found.now) ≡ Some rule }
     ensures limits { IfOk result IsWithinLimits }
-    ensures asked { IfOk result (IsAsked (codes "waits") (found_of matches.now)) }
+    ensures asked { IfOk result (IsAsked (codes "waits") (rows_in found.now)) }
 {
-    let workers = workers(matches, MAX_WORKERS)?;
-    let grouping = grouping(matches);
-    match number_within(matches, "worst", MAX_WORST)? {
-        None => Ok(Asked::Waits(workers, rule, grouping)),
+    let workers = workers(found)?;
+    let grouping = grouping(found);
+    match number_within(found, "worst", MAX_WORST)? {
+        None => Ok(Asked::Told(Told::Waits(workers, rule, grouping))),
         Some(most) => match grouping {
-            Grouping::Affinity => Ok(Asked::Worst(workers, rule, most)),
+            Grouping::Affinity => Ok(Asked::Told(Told::Worst(workers, rule, most))),
             Grouping::Name => {
                 Err(Refusal::because(rt, "'--names' cannot be used with '--worst'"))
             }
@@ -309,10 +251,10 @@ fn waits(rt: &impl Eprint, matches: &ArgMatches<'_>, rule: Rule) -> Result<Asked
 fn file_names<'a>(
     rt: &impl Eprint,
     alloc: Global,
-    matches: &ArgMatches<'a>,
+    found: &ArgMatches<'a>,
 ) -> Result<Vec<&'a str>, Refusal> {
     let mut names = Vec::new(alloc);
-    match push_names(rt, matches, &mut names) {
+    match push_names(rt, found, &mut names) {
         Ok(()) => Ok(names),
         Err(refusal) => Err(refusal),
     }
@@ -321,11 +263,11 @@ fn file_names<'a>(
 /// Appends the names of the files, of which not more than one is standard input.
 fn push_names<'a>(
     rt: &impl Eprint,
-    matches: &ArgMatches<'a>,
+    found: &ArgMatches<'a>,
     names: &mut Vec<&'a str>,
 ) -> Result<(), Refusal> {
     for id in FILE_WORDS.iter() {
-        if let Some(given) = matches.get_strs(id) {
+        if let Some(given) = words_in(found, id) {
             if given.len() > MAX_RANKED {
                 return Err(Refusal::because(rt, "at most 64 hierarchies can be ranked"));
             }
@@ -335,54 +277,43 @@ fn push_names<'a>(
     refuse_two_inputs(rt, names.as_slice())
 }
 
-/// The number of workers, where it is given; there are this many at most.
-fn workers(matches: &ArgMatches<'_>, most: u32) -> Result<Option<u32>, Refusal>
-    ensures given { IfOk result (IsWorkersGiven (found_of matches.now)) }
-    ensures some { IfOk result (λ number. IfSome number (λ k. 1 ≤ k)) }
-    ensures few { IfOk result (λ number. IfSome number (λ k. k ≤ most)) }
+/// The number of workers, where it is given.
+fn workers(found: &ArgMatches<'_>) -> Result<Option<Workers>, Refusal>
+    ensures { IfOk result (λ number. number ≡ workers_in (rows_in found.now)) }
 {
-    number_within(matches, "workers", most)
+    match number_in(found, "workers")? {
+        Some(number) => match Workers::of(number) {
+            Some(workers) => Ok(Some(workers)),
+            None => Err(Refusal::NoWords),
+        },
+        None => Ok(None),
+    }
+}
+
+/// The number of workers, which has to be given.
+fn wanted_workers(found: &ArgMatches<'_>) -> Result<Workers, Refusal>
+    ensures { IfOk result (λ k. Some k ≡ workers_in (rows_in found.now)) }
+{
+    workers(found)?.ok_or(Refusal::NoWords)
 }
 
 /// The number of this option, where it is given; it is 1 at least and this at most.
-fn number_within(matches: &ArgMatches<'_>, id: &str, most: u32) -> Result<Option<u32>, Refusal>
-    ensures given { IfOk result (IsNumberGiven 32 (found_of matches.now) id.now) }
+fn number_within(found: &ArgMatches<'_>, id: &str, most: u32) -> Result<Option<u32>, Refusal>
+    ensures given { IfOk result (λ number. number ≡ asks.number_in (rows_in found.now) id.now) }
     ensures some { IfOk result (λ number. IfSome number (λ k. 1 ≤ k)) }
     ensures few { IfOk result (λ number. IfSome number (λ k. k ≤ most)) }
 {
-    match number_given(matches, id) {
+    match number_in(found, id)? {
         Some(k) if k == 0 || k > most => Err(Refusal::NoWords),
         number => Ok(number),
     }
 }
 
-/// The number of this option, where it is given.
-fn number_given(matches: &ArgMatches<'_>, id: &str) -> Option<u32>
-    ensures { IsNumberGiven 32 (found_of matches.now) id.now result }
-{
-    matches.get_one::<u32>(id)
-}
-
-/// The tick of this option, where it is given.
-fn tick_given(matches: &ArgMatches<'_>, id: &str) -> Option<u64>
-    ensures { IsNumberGiven 64 (found_of matches.now) id.now result }
-{
-    matches.get_one::<u64>(id)
-}
-
-/// The number of planners' workers, which has to be given.
-fn wanted_workers(matches: &ArgMatches<'_>) -> Result<u32, Refusal>
-    ensures given { IfOk result (λ k. IsWorkersGiven (found_of matches.now) (Some k)) }
-    ensures limits { IfOk result IsWorkers }
-{
-    workers(matches, MAX_WORKERS)?.ok_or(Refusal::NoWords)
-}
-
 /// As what the plan is drawn.
-fn drawn_as(matches: &ArgMatches<'_>) -> Result<Drawing, Refusal>
-    ensures { IfOk result (IsDrawingGiven (found_of matches.now)) }
+fn drawn_as(found: &ArgMatches<'_>) -> Result<Drawing, Refusal>
+    ensures { IfOk result (λ drawing. drawing_in (rows_in found.now) ≡ Some drawing) }
 {
-    match matches.get_str("as") {
+    match word_in(found, "as") {
         Some(word) => drawing_named(word).ok_or(Refusal::NoWords),
         None => Err(Refusal::NoWords),
     }
@@ -399,17 +330,16 @@ fn drawing_named(word: &str) -> Option<Drawing>
     }
 }
 
-/// The numbers of workers of a sweep, where they are given.
+/// The numbers of planners' workers that are given, where there are some.
 fn swept_workers(
     rt: &impl Eprint,
     alloc: Global,
-    matches: &ArgMatches<'_>,
-) -> Result<Option<Vec<u32>>, Refusal>
-    ensures given { IfOk result (IsSweepGiven (found_of matches.now)) }
-    ensures limits { IfOk result (λ given. IfSome given (λ numbers.
-        All IsWorkers numbers.items)) }
+    found: &ArgMatches<'_>,
+) -> Result<Option<Vec<Workers>>, Refusal>
+    ensures { IfOk result (λ given. option_map (λ numbers. numbers.items) given
+        ≡ swept_in (rows_in found.now)) }
 {
-    match matches.get_strs("workers") {
+    match words_in(found, "workers") {
         Some(words) if words.len() > MAX_SWEPT => {
             Err(Refusal::because(rt, "'--workers' takes at most 64 numbers"))
         }
@@ -419,10 +349,9 @@ fn swept_workers(
 }
 
 /// The numbers of planners' workers that these words spell.
-fn numbers_of_workers(alloc: Global, words: &[&str]) -> Result<Vec<u32>, Refusal>
-    ensures read { IfOk result (λ numbers. numbers.items
+fn numbers_of_workers(alloc: Global, words: &[&str]) -> Result<Vec<Workers>, Refusal>
+    ensures { IfOk result (λ numbers. numbers.items
         ≡ map asks.number_of (map (λ word. word.now) words.now)) }
-    ensures limits { IfOk result (λ numbers. All IsWorkers numbers.items) }
 {
     let mut numbers = Vec::new(alloc);
     for word in words {
@@ -433,21 +362,20 @@ fn numbers_of_workers(alloc: Global, words: &[&str]) -> Result<Vec<u32>, Refusal
 }
 
 /// The number of planners' workers that this word spells.
-fn number_of_workers(word: &str) -> Result<u32, Refusal>
-    ensures read { IfOk result (λ k. k ≡ asks.number_of word.now) }
-    ensures limits { IfOk result IsWorkers }
+fn number_of_workers(word: &str) -> Result<Workers, Refusal>
+    ensures { IfOk result (λ k. k ≡ asks.number_of word.now) }
 {
     match word.parse::<u32>() {
-        Ok(k) if k >= 1 && k <= MAX_WORKERS => Ok(k),
-        _ => Err(Refusal::NoWords),
+        Ok(number) => Workers::of(number).ok_or(Refusal::NoWords),
+        Err(_) => Err(Refusal::NoWords),
     }
 }
 
 /// The rule by which messages start.
-fn rule_of(matches: &ArgMatches<'_>) -> Result<Rule, Refusal>
-    ensures { IfOk result (IsRuleGiven (found_of matches.now)) }
+fn rule_of(found: &ArgMatches<'_>) -> Result<Rule, Refusal>
+    ensures { IfOk result (λ rule. rule_in (rows_in found.now) ≡ Some rule) }
 {
-    match matches.get_str("rule") {
+    match word_in(found, "rule") {
         Some(word) => rule_named(word).ok_or(Refusal::NoWords),
         None => Err(Refusal::NoWords),
     }
@@ -464,36 +392,22 @@ fn rule_named(word: &str) -> Option<Rule>
     }
 }
 
-/// What the messages of one row have in common.
-fn grouping(matches: &ArgMatches<'_>) -> Grouping
-    ensures { IsGroupingGiven (found_of matches.now) result }
+/// What the messages of one row have in common, by whether `--names` is given.
+fn grouping(found: &ArgMatches<'_>) -> Grouping
+    ensures { result ≡ grouping_in (rows_in found.now) }
 {
-    grouping_for(matches.get_flag("names"))
-}
-
-/// What they have in common, by whether `--names` is given.
-fn grouping_for(names: bool) -> Grouping
-    ensures { result ≡ asks.grouping_for names }
-{
-    if names {
+    if flag_in(found, "names") {
         Grouping::Name
     } else {
         Grouping::Affinity
     }
 }
 
-/// Which columns a line has.
-fn columns(matches: &ArgMatches<'_>) -> Columns
-    ensures { IsColumnsGiven (found_of matches.now) result }
+/// Which columns a line has, by whether `--figures` is given.
+fn columns(found: &ArgMatches<'_>) -> Columns
+    ensures { result ≡ columns_in (rows_in found.now) }
 {
-    columns_for(matches.get_flag("figures"))
-}
-
-/// Which columns it has, by whether `--figures` is given.
-fn columns_for(figures: bool) -> Columns
-    ensures { result ≡ asks.columns_for figures }
-{
-    if figures {
+    if flag_in(found, "figures") {
         Columns::Figures
     } else {
         Columns::Costs
@@ -501,11 +415,11 @@ fn columns_for(figures: bool) -> Columns
 }
 
 /// The label of messages of which each has one line, if there is one.
-fn label(rt: &impl Eprint, matches: &ArgMatches<'_>) -> Result<Option<Label>, Refusal>
-    ensures { IfOk result (IsLabelGiven (found_of matches.now)) }
+fn label(rt: &impl Eprint, found: &ArgMatches<'_>) -> Result<Option<Label>, Refusal>
+    ensures { IfOk result (λ label. label ≡ label_in (rows_in found.now)) }
 {
-    let names = matches.get_flag("names");
-    let clients = matches.get_flag("clients");
+    let names = flag_in(found, "names");
+    let clients = flag_in(found, "clients");
     if names && clients {
         return Err(Refusal::because(rt, "'--names' cannot be used with '--clients'"));
     }
@@ -526,11 +440,11 @@ fn label_for(names: bool, clients: bool) -> Option<Label>
 }
 
 /// The part of a plan that is drawn.
-fn part_of(rt: &impl Eprint, matches: &ArgMatches<'_>) -> Result<Part, Refusal>
-    ensures { IfOk result (IsPartGiven (found_of matches.now)) }
+fn part_of(rt: &impl Eprint, found: &ArgMatches<'_>) -> Result<Part, Refusal>
+    ensures { IfOk result (IsPartGiven (rows_in found.now)) }
 {
-    let from = tick_given(matches, "from").ok_or(Refusal::NoWords)?;
-    match tick_given(matches, "to") {
+    let from = tick_in(found, "from")?.ok_or(Refusal::NoWords)?;
+    match tick_in(found, "to")? {
         Some(to) if to <= from => Err(Refusal::because(rt, "'--from' has to be below '--to'")),
         to => Ok(Part { from, to }),
     }

@@ -14,6 +14,27 @@
 //!   leave. No command runs these: tests do.
 //!
 //! At most 16 actors (`limits`).
+//!
+//! What a replay does, as a machine over lists of events, with no thread, lock or atomic: actors
+//! draw the messages of a job in its order, begin them and end them. Its states and steps stand in
+//! `specs/Machine.antt`, why an event is refused in `specs/Refused.antt`, what the cells are in
+//! `specs/Settled.antt`, and a state is *reached* when a list of events leads to it from the
+//! opening (`specs/Laws.antt`). The laws hold for every job: messages with their lowest affinities,
+//! with needs of theirs, in an order in which each message stands once and each need before its
+//! message (`IsJob`). The meaning of messages enters these laws by two facts alone: a cell that a
+//! message does not name stays as it was, and what a message leaves in the cells that it names
+//! depends on those cells alone. No two meanings need to commute.
+//!
+//! No command calls `run_events` or asks a `CoreState`; tests do. A begin looks at the needs of its
+//! message alone; only where one is not done does it go over the earlier messages, to name the
+//! least. That is not promised; what is promised is the answer.
+//!
+//! Tests: `test_threads/src/machines.rt` has orders that are no orders, a state in which messages
+//! run, wait, are held and are done, and a list of events for each cause of a refusal.
+//! `test_slow/src/compared_machines.rt` plays random lists of events, partly not allowed, on a
+//! plain machine that tests a begin against all earlier messages: the same refusals at the same
+//! places, else the same state. `tests/replays` runs random traces, and the events of the seats of
+//! a board in `run_events`, which has to leave the state of the serial run.
 #![tactic(auto)]
 
 mod actors;

@@ -9,6 +9,15 @@
 //! - `svg`: the text of the picture; `bars`: its bars; `runs`: the outlines of the chain; `frame`: where
 //!   what is around them stands; `pieces`: what all are made of.
 //! - `events`: the same as events of threads, for a viewer of traces.
+//!
+//! The picture of a plan that is given, or of a part of it, whether or not it obeys, is one
+//! document, byte for byte, and so are its events. The definition names the style sheet of a
+//! picture by the constant of the program, so no contract tells a wrong letter in it; the command
+//! cases do. That a browser shows the document legibly is not promised by a contract:
+//! `tests/draw/browser` opens large pictures.
+//!
+//! Tests: the command cases `draw-*`, whose texts are those of `tests/draw/picture`, which makes
+//! the picture apart from the program.
 #![tactic(auto)]
 
 mod axis;

@@ -9,6 +9,9 @@
 //!
 //! What is refused is the matter of the readers, which decide: these words look at the refused bytes
 //! again and tell what the readers saw. What was accepted is lent to them.
+//!
+//! The words of a hierarchy or a trace that is refused. That they are lines with heads is promised
+//! (`waff_say`); what they say is tested.
 #![tactic(auto)]
 
 mod affinities;

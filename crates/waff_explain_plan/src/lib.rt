@@ -7,6 +7,9 @@
 //!
 //! What is refused or found is the matter of the reader and of the verdicts: these words look at the
 //! same bytes again. What was read is lent to them.
+//!
+//! The words of a plan. That they are lines with heads is promised (`waff_say`); what they say is
+//! tested.
 #![tactic(auto)]
 
 mod hearing;

@@ -14,11 +14,11 @@ use Rattle.waff_figures.specs.Figures.{AreFigures}
 use Rattle.waff_figures.specs.Least.{IsLowerBound, least_in, over_field}
 use Rattle.waff_plan_text.specs.Ratio.{ratio_field}
 use Rattle.waff_figures.specs.declared.figures.Figures.{Figures}
-use Rattle.waff_figures.specs.declared.sweep.TheConstants.{SWEEP_WORKERS}
 
 -- the numbers of workers that a sweep tells of where none are asked for
 abbrev pub sweep_workers : List ℕ
-sweep_workers = SWEEP_WORKERS
+sweep_workers =
+    1 ∷ 2 ∷ 3 ∷ 4 ∷ 6 ∷ 8 ∷ 12 ∷ 16 ∷ 24 ∷ 32 ∷ 48 ∷ 64 ∷ []
 
 -- what tells how good a plan is: the names, and the fields
 abbrev pub quality_names : List (List ℕ)

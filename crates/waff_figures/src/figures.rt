@@ -13,11 +13,12 @@ ghost use Rattle.waff_figures.specs.Figures.{latencies_of, latency_of, waits_of}
 ghost use Rattle.waff_figures.specs.Least.{LeastIsLowerBound, OneIsShortest, OverIsUpperBound};
 ghost use Rattle.waff_figures.specs.Least.{least_in, least_of};
 
+use crate::limit::number_of;
 use crate::percentile::percentile;
 use std::alloc::{AllocError, Global};
 use waff_plan::laws::{least_is_shortest, none_is_shorter};
 use waff_plan::lower_bound::{lower_bound, none_is_below};
-use waff_plan::{Plan, Planned};
+use waff_plan::{Plan, Planned, Workers};
 use waff_plan_text::laws::ratio_up_is_upper_bound;
 
 /// What is told of a plan, in ticks.
@@ -52,14 +53,14 @@ pub struct Figures {
 pub fn figures_of(
     alloc: Global,
     planned: &Planned<'_>,
-    workers: Option<u32>,
+    workers: Option<Workers>,
     shortest: u64,
 ) -> Result<Figures, AllocError>
-    requires { IfSome workers IsWorkers }
     ensures { IfOk result (AreFigures workers (planned_work planned.now)
         (least_in workers (instance_of planned.now.case) shortest)
         (planned_starts planned.now)) }
 {
+    let workers = number_of(workers);
     let least = least(alloc, planned, workers, shortest)?;
     let plan = planned.plan;
     let sorted = sorted_latencies(alloc, plan)?;

@@ -4,6 +4,7 @@
 //! - `percentile`: percentiles.
 //! - `figures`: what is told of one plan; `fields`: how it is printed; `sweep`: of the list plans
 //!   for some numbers of workers, made side by side by `slots`; `rate`: of any plan.
+//! - `limit`: a limit on workers as a number.
 //! - `tally`, over `grouped`: what is told of the messages of each group; `below`: costs summed up
 //!   the tree; `names`: the distinct names or clients.
 //! - `parts`, over `members`: figures of the messages of each group.
@@ -11,7 +12,19 @@
 //! - `waits`: the waits of a plan; `wait_groups`: the messages that are told of together;
 //!   `wait_rows`: the waits of one kind, told in one row; `wait_text`: their text.
 //! - `worst`: the messages of greatest latency; `worst_text`: their text.
+//! - `told`: what can be asked of a trace under a hierarchy.
 //! - `laws`, `part_laws`, `wait_laws`: the columns of these texts add up.
+//!
+//! No plan that obeys for as many workers is shorter than `least`, and a plan is at most `over`
+//! times as long as any of them. Columns add up: messages and costs of the affinities to those of
+//! the trace, waits of messages to those of the plan, and what is on a chain to its cost. Waiting
+//! for the own client is no wait. Sums are made in one pass from the last affinity to the first,
+//! and names are found in a table: that is not promised.
+//!
+//! Tests: the command cases `sweep-*` and `rate-*` (the samples, the trace of no message, plans
+//! that do not obey), `waits-*` (a line that messages share, and names that are `-`), `where-*`
+//! (figures of a line's own messages) and `worst-*` (a message that finishes late and takes
+//! little).
 #![tactic(auto)]
 
 mod below;
@@ -22,6 +35,7 @@ pub mod figures;
 mod grouped;
 mod grouping;
 pub mod laws;
+mod limit;
 mod members;
 mod names;
 pub mod part_laws;
@@ -31,6 +45,7 @@ mod rate;
 mod slots;
 mod sweep;
 mod tally;
+mod told;
 mod wait_groups;
 pub mod wait_laws;
 mod wait_rows;
@@ -44,11 +59,13 @@ pub use by_name::names_text;
 pub use fields::{QUALITY, QualityFields};
 pub use figures::{Figures, figures_of};
 pub use grouping::{Columns, Grouping, Label};
+pub use limit::{limit_of, number_of, workers_of};
 pub use parts::PartFigures;
 pub use rate::push_rate;
 pub use slots::{all_made, sides};
 pub use sweep::{SWEEP_WORKERS, figures_text, list_figures, list_figures_for, sweep_workers};
 pub use tally::Tally;
+pub use told::Told;
 pub use wait_groups::groups;
 pub use wait_rows::{Group, Row};
 pub use wait_text::waiting_text;

@@ -15,6 +15,7 @@ ghost use Rattle.waff_figures.specs.Sweep.{sweep_header, sweep_lines, sweep_row,
 
 use crate::fields::{BusyField, QUALITY, QualityFields};
 use crate::figures::{Figures, figures_of, least_is_lower_bound};
+use crate::limit::workers_of;
 use crate::slots::{all_made, sides};
 use std::alloc::{AllocError, Global};
 use std::thread;
@@ -24,14 +25,26 @@ use waff_list::laws::needs_make_the_same_plans;
 use waff_list::{Rule, WorkerPlan, list_plan_by, list_plan_of};
 use waff_order::Needs;
 use waff_order::predecessors::needs;
-use waff_plan::Planned;
+use waff_plan::{Planned, Workers};
 use waff_plan_text::{Ratio, WorkerField};
 
 /// The numbers of workers that a sweep tells of where none are asked for.
 pub static SWEEP_WORKERS: [u32; 12] = [1, 2, 3, 4, 6, 8, 12, 16, 24, 32, 48, 64];
 
 /// The numbers of workers that a sweep tells of where none are asked for.
-pub fn sweep_workers() -> &'static [u32]
+pub fn sweep_workers(alloc: Global) -> Result<Vec<Workers>, AllocError>
+    ensures { IfOk result (λ usual. usual.items ≡ sweep_workers) }
+{
+    let numbers = usual_numbers();
+    let mut usual = Vec::with_capacity(alloc, numbers.len())?;
+    for k in numbers {
+        usual.push_reserved(workers_of(*k));
+    }
+    Ok(usual)
+}
+
+/// The same as numbers.
+fn usual_numbers() -> &'static [u32]
     ensures listed { result.now ≡ sweep_workers }
     ensures fit { All IsWorkers result.now }
 {
@@ -46,11 +59,10 @@ pub fn list_figures<R: Threads + Sync>(
     alloc: Global,
     unlimited: &Planned<'_>,
     rule: Rule,
-    workers: &[u32],
+    workers: &[Workers],
 ) -> Result<Vec<Figures>, AllocError>
     requires least { IsLeast (planned_order unlimited.now) (planned_work unlimited.now)
         (planned_starts unlimited.now) }
-    requires workers { All IsWorkers workers.now }
     ensures { IfOk result (λ listed. AreListed rule (instance_of unlimited.now.case)
         (length_of (planned_work unlimited.now) (planned_starts unlimited.now))
         workers.now listed.items) }
@@ -69,12 +81,11 @@ fn figures_by<R: Threads + Sync>(
     unlimited: &Planned<'_>,
     needs: Option<&Needs>,
     rule: Rule,
-    workers: &[u32],
+    workers: &[Workers],
 ) -> Result<Vec<Figures>, AllocError>
     requires needs { IfSome needs (λ needs. AreNeedsOf unlimited.now.case needs.now) }
     requires least { IsLeast (planned_order unlimited.now) (planned_work unlimited.now)
         (planned_starts unlimited.now) }
-    requires workers { All IsWorkers workers.now }
     ensures { IfOk result (λ listed. AreListed rule (instance_of unlimited.now.case)
         (length_of (planned_work unlimited.now) (planned_starts unlimited.now))
         workers.now listed.items) }
@@ -85,7 +96,6 @@ fn figures_by<R: Threads + Sync>(
         requires needs { IfSome needs (λ needs. AreNeedsOf unlimited.now.case needs.now) }
         requires least { IsLeast (planned_order unlimited.now) (planned_work unlimited.now)
             (planned_starts unlimited.now) }
-        requires workers { All IsWorkers workers.now }
         ensures workers { IfSome made.new (λ figures.
             figures.workers ≡ Some (slice_index workers.entry.now place)) }
         ensures listed { IfSome made.new (IsListed rule (instance_of unlimited.entry.now.case)
@@ -101,11 +111,10 @@ pub fn list_figures_for(
     alloc: Global,
     unlimited: &Planned<'_>,
     rule: Rule,
-    k: u32,
+    k: Workers,
 ) -> Result<Figures, AllocError>
     requires least { IsLeast (planned_order unlimited.now) (planned_work unlimited.now)
         (planned_starts unlimited.now) }
-    requires workers { IsWorkers k }
     ensures workers { IfOk result (λ figures. figures.workers ≡ Some k) }
     ensures listed { IfOk result (IsListed rule (instance_of unlimited.now.case)
         (length_of (planned_work unlimited.now) (planned_starts unlimited.now))) }
@@ -119,17 +128,17 @@ fn figures_for(
     unlimited: &Planned<'_>,
     needs: Option<&Needs>,
     rule: Rule,
-    k: u32,
+    k: Workers,
 ) -> Result<Figures, AllocError>
     requires needs { IfSome needs (λ needs. AreNeedsOf unlimited.now.case needs.now) }
     requires least { IsLeast (planned_order unlimited.now) (planned_work unlimited.now)
         (planned_starts unlimited.now) }
-    requires workers { IsWorkers k }
     ensures workers { IfOk result (λ figures. figures.workers ≡ Some k) }
     ensures listed { IfOk result (IsListed rule (instance_of unlimited.now.case)
         (length_of (planned_work unlimited.now) (planned_starts unlimited.now))) }
 {
     let _affinities = unlimited.case.tree.len();
+    let _fits = k.number();
     let made = planned_for(alloc, unlimited.case, needs, rule, k)?;
     least_is_lower_bound();
     let planned = Planned {
@@ -147,10 +156,9 @@ fn planned_for(
     case: Case<'_>,
     needs: Option<&Needs>,
     rule: Rule,
-    k: u32,
+    k: Workers,
 ) -> Result<WorkerPlan, AllocError>
     requires needs { IfSome needs (λ needs. AreNeedsOf case needs.now) }
-    requires workers { IsWorkers k }
     ensures version { IfOk result (λ made. made.plan.version ≡ case.entry.trace.now.version) }
     ensures timings { IfOk result (λ made.
         made.plan.timings ≡ timings_of case.entry.trace.now.messages) }
@@ -161,9 +169,9 @@ fn planned_for(
     match needs {
         Some(needs) => {
             needs_make_the_same_plans();
-            list_plan_by(alloc, needs, case.trace, rule, k)
+            list_plan_by(alloc, needs, case.trace, rule, k.number())
         }
-        None => list_plan_of(alloc, case, rule, k),
+        None => list_plan_of(alloc, case, rule, k.number()),
     }
 }
 

@@ -10,7 +10,7 @@ use Rattle.waff_read.proofs.LimitLaws.{layout_is_within_limits}
 use Rattle.waff_assign.specs.Instance.{Instance}
 use Rattle.waff_assign.specs.Lowest.{IsAssignment}
 use Rattle.waff_assign.proofs.Uniqueness.{assignment_is_one}
-use Rattle.waff_inputs.specs.Inputs.{Accepts, IsToldOf}
+use Rattle.waff_inputs.specs.Inputs.{Accepts, IsToldOf, IsToldUnder}
 
 -- bytes are read as one thing
 pub same_ok : {A E : Type 0} (read : Result A E) (a b : A) → read ≡ Ok a → read ≡ Ok b → a ≡ b
@@ -40,10 +40,18 @@ same_input hierarchy_file trace_file one other p q =
     (assignment_is_one p.layout one.trace.messages (layout_tree hierarchy_file p.layout p.is_layout) one.assigned other.assigned p.assignment moved)
     traces
 
--- what is told of files is one where it is one of each instance
+-- what is told of files is one where it is one of each hierarchy and instance
+pub told_under_is_one : {A : Type 0} (IsTold : Hierarchy → Instance → A → Type 0) (hierarchy_file trace_file : List ℕ)
+    → ((instance : Instance) (accepts : Accepts hierarchy_file trace_file instance) → AtMostOne (IsTold accepts.layout instance))
+    → AtMostOne (IsToldUnder IsTold hierarchy_file trace_file)
+told_under_is_one IsTold hierarchy_file trace_file one a b p q =
+    let same = same_input hierarchy_file trace_file p.instance q.instance p.accepts q.accepts in
+    let layouts = same_ok (hierarchy_of hierarchy_file) p.accepts.layout q.accepts.layout p.accepts.is_layout q.accepts.is_layout in
+    one p.instance p.accepts a b p.told
+    (subst (λ (l : Hierarchy). IsTold l p.instance b) (sym layouts) (subst (λ i. IsTold q.accepts.layout i b) (sym same) q.told))
+
+-- of the instance alone
 pub told_is_one : {A : Type 0} (IsTold : Instance → A → Type 0) (hierarchy_file trace_file : List ℕ)
     → ((instance : Instance) → Accepts hierarchy_file trace_file instance → AtMostOne (IsTold instance))
     → AtMostOne (IsToldOf IsTold hierarchy_file trace_file)
-told_is_one IsTold hierarchy_file trace_file one a b p q =
-    let same = same_input hierarchy_file trace_file p.instance q.instance p.accepts q.accepts in
-    one p.instance p.accepts a b p.told (subst (λ i. IsTold i b) (sym same) q.told)
+told_is_one IsTold hierarchy_file trace_file one = told_under_is_one (λ layout. IsTold) hierarchy_file trace_file one

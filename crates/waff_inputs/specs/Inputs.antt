@@ -25,12 +25,17 @@ abbrev pub instance_under : Hierarchy → List ℕ → Arrivals → Instance
 instance_under layout assigned trace =
     record { tree = layout.tree; assigned = assigned; trace = trace }
 
--- what is told of files is told of the instance that they come to
-pub record IsToldOf {A : Type 0} (IsTold : Instance → A → Type 0)
+-- what is told of files is told of the hierarchy and the instance that they come to
+pub record IsToldUnder {A : Type 0} (IsTold : Hierarchy → Instance → A → Type 0)
     (hierarchy_file trace_file : List ℕ) (a : A) : Type 0 where
   pub instance : Instance
   pub accepts : Accepts hierarchy_file trace_file instance
-  pub told : IsTold instance a
+  pub told : IsTold accepts.layout instance a
+
+-- of the instance alone
+abbrev pub IsToldOf : {A : Type 0} → (Instance → A → Type 0) → List ℕ → List ℕ → A → Type 0
+IsToldOf IsTold hierarchy_file trace_file a =
+    IsToldUnder (λ layout. IsTold) hierarchy_file trace_file a
 
 -- what the bytes of the hierarchy of this number are read as
 abbrev pub layout_of : ℕ → List ℕ → Result Hierarchy ToolError

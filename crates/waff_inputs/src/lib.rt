@@ -14,6 +14,11 @@
 //!
 //! What each text is, the commands say; plan texts are read by those that take one. The limits of
 //! files are those of their readers, and an allocation failure is one fault wherever it comes from.
+//!
+//! What each text call delivers is one record, `Delivers` (`specs/Deliveries.antt`), over what its
+//! text is: where it answers Ok the text was written, and nothing else; where the writer failed, a
+//! prefix of the text; else nothing was, and the files are refused for the error. The refusal is
+//! the hierarchy's, or else the trace's, exactly as the reader names it, and it is one.
 #![tactic(auto)]
 
 mod fault;

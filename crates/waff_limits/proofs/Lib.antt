@@ -13,3 +13,9 @@ pub mod WhyFields
 pub mod LimitLaws
 pub mod RunLemmas
 pub mod JumpLemmas
+pub mod InnerLemmas
+pub mod Searching
+pub mod Sharing
+pub mod WrittenCells
+pub mod SkyLemmas
+pub mod Skyline

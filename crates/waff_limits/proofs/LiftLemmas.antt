@@ -11,7 +11,7 @@ use Rattle.waff_model.specs.declared.op.Op.TheVariants.{Set, Add, Copy, Swap, Re
 use Rattle.waff_model.proofs.TreeLemmas.{reflexive, above_child, above_parent, above_root, comparable, earlier, transitive}
 use Rattle.waff_assign.specs.Lowest.{IsLowest}
 use Rattle.waff_limits.specs.Lifted.{AreLifting, IsFirst, IsFirstAmong, IsLowestOfTwo}
-use Rattle.waff_limits.specs.LiftedLaws.{SomeLift}
+use Rattle.waff_limits.specs.LiftedLaws.{AloneIsOwner, SomeLift}
 use Rattle.waff_limits.proofs.FirstCells.{first_is_one, first_same, some_first}
 
 -- operations name cells
@@ -74,6 +74,16 @@ module _ (layout : Hierarchy) (is : IsLayout layout) (Has : Cell → Type 0) (a 
     lowest = λ other covers. subst (λ x. AtOrAbove layout.tree other x) (sym same) (covers first (first_of_two first first));
   }
 
+  -- and it lifts alone
+  pub lifts_alone : IsFirst Has first → a ≡ owner_of layout.spaces first → AreLifting layout Has a first first
+  lifts_alone before same = record {
+    first = before;
+    lifting = record {
+      has = (has, lifts_itself same);
+      before = λ other also. before.before other also.0;
+    };
+  }
+
   module _ (below : ℕ) (next : parent_of layout.tree below ≡ Some a) (above : AtOrAbove layout.tree below (owner_of layout.spaces first)) where
     up : a < below
     up = is.tree.rooted.earlier below a next
@@ -124,17 +134,7 @@ module _ (layout : Hierarchy) (is : IsLayout layout) (cells : List Cell) (a : �
 
   with_first : (cell : Cell) → IsFirst (Contains cells) cell → Lifting
   with_first cell first = elim (cases_eq a (owner_of layout.spaces cell)) [
-    | inl same ↦ (
-      cell,
-      cell,
-      record {
-        first = first;
-        lifting = record {
-          has = (first.has, lifts_itself layout is (Contains cells) a lowest cell first.has same);
-          before = λ other has. first.before other has.0;
-        };
-      },
-    )
+    | inl same ↦ (cell, cell, lifts_alone layout is (Contains cells) a lowest cell first.has first same)
     | inr apart ↦
         let way = lowest.covers cell first.has in
         let (below, next, above) = next_on_way layout.tree way.0 a (owner_of layout.spaces cell) apart way.1 in
@@ -172,3 +172,21 @@ lifting_is_one layout Has a cell other one another p q =
     let same = first_is_one Has cell one p.first q.first in
     let moved = subst (λ c. IsFirst (λ x. Has x × IsLowestOfTwo layout a c x) other) same p.lifting in
     (same, first_is_one (λ x. Has x × IsLowestOfTwo layout a one x) other another moved q.lifting)
+
+-- the first cell lifts alone exactly where its owner is the affinity
+pub alone_is_owner : (layout : Hierarchy) (cells : List Cell) → AloneIsOwner layout cells
+alone_is_owner layout cells a cell other is lowest lifting = (alone, owner)
+  where
+    alone : cell ≡ other → a ≡ owner_of layout.spaces cell
+    alone same =
+        let two : IsLowestOfTwo layout a cell cell = subst (IsLowestOfTwo layout a cell) (sym same) lifting.lifting.has.1 in
+        let of : ℕ = owner_of layout.spaces cell in
+        let down = earlier layout.tree is.tree.rooted a of (two.covers cell (first_of_two cell cell)) in
+        let up = earlier layout.tree is.tree.rooted of a
+        (two.lowest of (λ c there. of_two (λ x. AtOrAbove layout.tree of (owner_of layout.spaces x)) cell cell c there (reflexive layout.tree of) (reflexive layout.tree of))) in
+        omega (arith, down, up)
+
+    owner : a ≡ owner_of layout.spaces cell → cell ≡ other
+    owner same =
+        let itself = lifts_alone layout is (Contains cells) a lowest cell lifting.first.has lifting.first same in
+        sym ((lifting_is_one layout (Contains cells) a cell other cell cell lifting itself).1)

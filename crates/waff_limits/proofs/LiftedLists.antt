@@ -1,12 +1,12 @@
 -- The lifts of a trace, message by message.
-use Rattle.std.proofs.Common.{◌≡◌, ◌≢◌, ℕ, ◌+◌, ◌-◌, ◌<◌, ◌≤◌, ◌⊎◌, inl, inr, List, [], ◌∷◌, ◌++◌, length, All, Contains, Some, slice_get, arith, refl, sym, ◌∙◌, ap, subst}
+use Rattle.std.proofs.Common.{◌≡◌, ℕ, ◌+◌, ◌-◌, ◌<◌, ◌≤◌, ◌⊎◌, inl, inr, List, [], ◌∷◌, ◌++◌, length, All, Contains, Some, slice_get, arith, refl, sym, ◌∙◌, ap, subst}
 use Rattle.std.specs.List.{AllPairs}
 use Rattle.std.proofs.lemmas.Bool.{cases_eq}
 use Rattle.std.proofs.lemmas.List.{length_push}
 use Rattle.std.proofs.lemmas.List.Elements.{All-contains, All-push, Contains-append_left, Contains-append_right}
 use Rattle.std.proofs.lemmas.List.Quantifiers.{all_pairs_push}
 use Rattle.std.proofs.lemmas.Option.{get_or_from_slice_get}
-use Rattle.waff_model.specs.Layout.{Hierarchy, owner_of}
+use Rattle.waff_model.specs.Layout.{Hierarchy}
 use Rattle.waff_model.specs.Numbers.{IsAmongFirst}
 use Rattle.waff_model.specs.Unique.{AtMostOne}
 use Rattle.waff_model.specs.declared.cell.Cell.{Cell}
@@ -15,10 +15,9 @@ use Rattle.waff_assign.specs.Lowest.{IsInFootprint}
 use Rattle.waff_assign.specs.Order.{affinity_of}
 use Rattle.waff_plan.specs.Timetable.{message_of, no_message}
 use Rattle.waff_figures.proofs.Lists.{same_order}
-use Rattle.waff_limits.specs.Lifted.{AreLifting, AreLifts, IsFirst, IsLift, IsLifted, IsTold, IsUsedBy}
+use Rattle.waff_limits.specs.Lifted.{AreLifting, AreLifts, IsInner, IsLift, IsTold, IsUsedBy, RunsHigh}
 use Rattle.waff_limits.specs.declared.lifted.Lift.{Lift}
 use Rattle.waff_limits.proofs.LiftLemmas.{lifting_is_one}
-use Rattle.waff_limits.proofs.FirstCells.{first_is_one}
 
 abbrev Comes : Lift → Lift → Type 0
 Comes one other = one.message < other.message
@@ -27,7 +26,7 @@ module _ (layout : Hierarchy) (messages : List Message) (assigned : List ℕ) wh
   -- the lifts of the messages before message n
   pub record AreBefore (n : ℕ) (lifts : List Lift) : Type 0 where
     pub each : All (IsLift layout messages assigned) lifts
-    pub all : (m : ℕ) → m < n → IsLifted layout messages assigned m → (lift : Lift) × Contains lifts lift × (lift.message ≡ m)
+    pub all : (m : ℕ) → m < n → RunsHigh layout.tree messages assigned m → (lift : Lift) × Contains lifts lift × (lift.message ≡ m)
     pub order : AllPairs (λ (one : Lift) (other : Lift). one.message < other.message) lifts
     pub few : All (λ (lift : Lift). lift.message < n) lifts
     pub count : length lifts ≤ n - 1
@@ -43,13 +42,13 @@ module _ (layout : Hierarchy) (messages : List Message) (assigned : List ℕ) wh
     wider : All (λ (lift : Lift). lift.message < n + 1) lifts
     wider k d low = let few = are.few k d low in omega (arith, few)
 
-    -- with message n, which is lifted
+    -- with message n, which runs high
     pub lift_more : (lift : Lift) → lift.message ≡ n → IsTold layout.spaces (length messages) lift → IsLift layout messages assigned lift
         → AreBefore (n + 1) (lifts ++ lift ∷ [])
     lift_more lift is known told = record {
       each = All-push (IsLift layout messages assigned) lifts lift are.each told;
-      all = λ m low lifted. elim (earlier_or m low) [
-        | inl earlier ↦ let (found, there, same) = are.all m earlier lifted in (found, Contains-append_left lifts (lift ∷ []) found there, same)
+      all = λ m low high. elim (earlier_or m low) [
+        | inl earlier ↦ let (found, there, same) = are.all m earlier high in (found, Contains-append_left lifts (lift ∷ []) found there, same)
         | inr same ↦ (lift, Contains-append_right lifts (lift ∷ []) lift (0, omega arith, refl), is ∙ sym same)
       ];
       order = all_pairs_push Comes lifts lift are.order (λ k d low. let few = are.few k d low in omega (arith, few, is));
@@ -59,12 +58,12 @@ module _ (layout : Hierarchy) (messages : List Message) (assigned : List ℕ) wh
     }
 
     -- with message n, which is not
-    pub no_lift_more : ¬ IsLifted layout messages assigned n → AreBefore (n + 1) lifts
+    pub no_lift_more : ¬ RunsHigh layout.tree messages assigned n → AreBefore (n + 1) lifts
     no_lift_more not = record {
       each = are.each;
-      all = λ m low lifted. elim (earlier_or m low) [
-        | inl earlier ↦ are.all m earlier lifted
-        | inr same ↦ absurd (not (subst (IsLifted layout messages assigned) same lifted))
+      all = λ m low high. elim (earlier_or m low) [
+        | inl earlier ↦ are.all m earlier high
+        | inr same ↦ absurd (not (subst (RunsHigh layout.tree messages assigned) same high))
       ];
       order = are.order;
       few = wider;
@@ -86,8 +85,8 @@ module _ (layout : Hierarchy) (messages : List Message) (assigned : List ℕ) wh
       (subst (λ m. AreLifting layout (IsUsedBy messages m) (affinity_of assigned m) one.cell one.other) same p.cells) q.cells in
       same_lift one other same (p.cost ∙ ap (λ m. (message_of messages m).cost) same ∙ sym q.cost) cells.0 cells.1
 
-  is_lifted : (lift : Lift) → IsLift layout messages assigned lift → IsLifted layout messages assigned lift.message
-  is_lifted lift is = record { number = is.number; cell = lift.cell; first = is.cells.first; above = is.above }
+  is_high : (lift : Lift) → IsLift layout messages assigned lift → RunsHigh layout.tree messages assigned lift.message
+  is_high lift is = record { number = is.number; inner = is.inner }
 
   one_way : (one other : Lift) → Comes one other → Comes other one → ⊥
   one_way one other less more = omega (arith, less, more)
@@ -97,31 +96,22 @@ module _ (layout : Hierarchy) (messages : List Message) (assigned : List ℕ) wh
       let into : (xs ys : List Lift) → AreLifts layout messages assigned xs → AreLifts layout messages assigned ys → (l : Lift) → Contains xs l → Contains ys l
       = λ xs ys p q l there.
       let is = All-contains (IsLift layout messages assigned) xs l p.each there in
-      let (found, has, same) = q.all l.message (is_lifted l is) in
+      let (found, has, same) = q.all l.message (is_high l is) in
       let told = All-contains (IsLift layout messages assigned) ys found q.each has in
       subst (Contains ys) (lift_is_one found l same told is) has in
       same_order Comes one_way lifts other are.order other_are.order (into lifts other are other_are) (into other lifts other_are are)
 
--- what is told of message n, which is this one and uses this cell first
-module _ (layout : Hierarchy) (messages : List Message) (assigned : List ℕ) (n : ℕ) (message : Message) (is : slice_get messages (n - 1) ≡ Some message)
-    (cell : Cell) (first : IsFirst (IsInFootprint message.ops) cell) where
+-- what is told of message n, which is this one
+module _ (layout : Hierarchy) (messages : List Message) (assigned : List ℕ) (n : ℕ) (message : Message) (is : slice_get messages (n - 1) ≡ Some message) where
   same_message : message_of messages n ≡ message
   same_message = get_or_from_slice_get messages (n - 1) message no_message is
 
-  first_used : IsFirst (IsUsedBy messages n) cell
-  first_used = subst (λ (m : Message). IsFirst (IsInFootprint m.ops) cell) (sym same_message) first
-
-  pub not_lifted : owner_of layout.spaces cell ≡ affinity_of assigned n → ¬ IsLifted layout messages assigned n
-  not_lifted same lifted =
-      let one = first_is_one (IsUsedBy messages n) cell lifted.cell first_used lifted.first in
-      lifted.above (sym same ∙ ap (owner_of layout.spaces) one)
-
-  pub is_lift : (other : Cell) → IsAmongFirst (length messages) n → affinity_of assigned n ≢ owner_of layout.spaces cell
+  pub is_lift : (cell other : Cell) → IsAmongFirst (length messages) n → IsInner layout.tree (affinity_of assigned n)
       → AreLifting layout (IsInFootprint message.ops) (affinity_of assigned n) cell other
       → IsLift layout messages assigned (record { message = n; cost = message.cost; cell = cell; other = other })
-  is_lift other number above lifting = record {
+  is_lift cell other number inner lifting = record {
     number = number;
     cost = ap (λ (m : Message). m.cost) (sym same_message);
     cells = subst (λ (m : Message). AreLifting layout (IsInFootprint m.ops) (affinity_of assigned n) cell other) (sym same_message) lifting;
-    above = above;
+    inner = inner;
   }

@@ -1,7 +1,8 @@
 -- What limits a workload, beside all plans.
-use Rattle.std.proofs.Common.{◌≡◌, inl, inr, ℕ, ◌<◌, ◌≤◌, max, nat_lt, length, map, Option, Some, None, IfSome, refl, sym, ◌∙◌, ap, subst, arith}
+use Rattle.std.proofs.Common.{◌≡◌, inl, inr, ℕ, suc, ◌-◌, ◌<◌, ◌≤◌, All, max, nat_lt, length, map, Option, Some, None, IfSome, get_or, refl, sym, ◌∙◌, ap, subst, arith}
 use Rattle.std.specs.List.{range_with_len}
 use Rattle.std.proofs.lemmas.Bool.{cases_Bool, ltb-false, ltb-true}
+use Rattle.std.proofs.lemmas.List.{get_or_default}
 use Rattle.waff_model.specs.Layout.{Hierarchy, IsCell}
 use Rattle.waff_model.specs.Tree.{IsTree}
 use Rattle.waff_model.specs.Versions.{has_clients}
@@ -9,7 +10,8 @@ use Rattle.waff_model.specs.declared.cell.Cell.{Cell}
 use Rattle.waff_model.specs.declared.message.Version.{Version}
 use Rattle.waff_model.specs.declared.message.Version.TheVariants.{V1, V2, V3}
 use Rattle.waff_assign.specs.Instance.{Instance}
-use Rattle.waff_assign.specs.Order.{IsOrdered}
+use Rattle.waff_assign.specs.Order.{IsOrdered, affinity_of}
+use Rattle.waff_assign.proofs.Knowing.{affinity_known}
 use Rattle.waff_plan.specs.Apart.{AreApart}
 use Rattle.waff_plan.specs.Bound.{IsWorkers}
 use Rattle.waff_plan.specs.Instances.{served_first, work_of_instance}
@@ -17,25 +19,28 @@ use Rattle.waff_plan.specs.LowerBound.{ObeysInSomeOrder, client_finish, lower_bo
 use Rattle.waff_plan.specs.Obeys.{EachRuns, IsLeast, Obeys}
 use Rattle.waff_plan.specs.Peak.{IsPeak}
 use Rattle.waff_plan.specs.Serving.{IsStartedBefore, served_before}
-use Rattle.waff_plan.specs.Timetable.{AreTimings, timings_of}
-use Rattle.waff_plan.specs.Work.{Work, greatest, length_of, total_of}
+use Rattle.waff_plan.specs.Timetable.{AreTimings, message_of, no_message, timings_of}
+use Rattle.waff_plan.specs.TreeStarts.{TreeIsReached, tree_start}
+use Rattle.waff_plan.specs.Work.{IsAmongFirst, IsNumber, Work, greatest, length_of, total_of}
 use Rattle.waff_plan.specs.declared.peak.Peak.{Peak}
 use Rattle.waff_plan.proofs.ApartLaws.{apart_where_finished}
 use Rattle.waff_plan.proofs.Chains.{least_is_shortest}
-use Rattle.waff_plan.proofs.LowerBounds.{none_is_below}
+use Rattle.waff_plan.proofs.LowerBounds.{client_is, none_is_below}
 use Rattle.waff_plan.proofs.ServingLemmas.{each_runs, least_started}
 use Rattle.waff_plan.proofs.StartOrder.{served_apart, serving_obeys}
-use Rattle.waff_plan.proofs.TimingLemmas.{are_timings, length-timings_of}
+use Rattle.waff_plan.proofs.TimingLemmas.{are_timings, floor_alone, length-timings_of, timings_alone}
 use Rattle.waff_plan.proofs.Uniqueness.{same_length}
 use Rattle.waff_figures.proofs.LeastLaws.{follows_in}
 use Rattle.waff_limits.specs.Data.{ComesBefore, IsMost, IsMostOf, ticks_on}
-use Rattle.waff_limits.specs.Laws.{IsUnder, KeepsOrderWhere, LimitsAreLowerBound, LimitsAreOne, NoneIsBelowLimits, OrderIsNotBelow, OrderIsShortest, greatest_limit}
+use Rattle.waff_limits.specs.Laws.{ClientsFinish, IsUnder, KeepsOrderWhere, LimitsAreLowerBound, LimitsAreOne, NoneIsBelowLimits, OrderIsNotBelow, OrderIsShortest, PathIsReached, StartsAtOnce, greatest_limit}
 use Rattle.waff_limits.specs.Limits.{AreLimits, ticks_of}
 use Rattle.waff_limits.specs.declared.data.CellUse.{CellUse}
 use Rattle.waff_limits.specs.declared.limits.Limits.{Limits}
 use Rattle.waff_limits.proofs.Cells.{cases_cell, is_turned}
 use Rattle.waff_limits.proofs.DataLaws.{data_bounds}
 use Rattle.waff_limits.proofs.LimitLemmas.{most_used_is_cell}
+use Rattle.waff_limits.proofs.Sharing.{writes_below}
+use Rattle.waff_limits.specs.Writes.{ticks_shared}
 
 module _ (instance : Instance) (layout : Hierarchy) (under : IsUnder layout instance) where
   abbrev work : Work
@@ -71,9 +76,11 @@ module _ (instance : Instance) (layout : Hierarchy) (under : IsUnder layout inst
   is_lower_bound workers start limits are =
       let share : share_in workers limits.total ≡ share_in workers (total_of work) = ap (share_in workers) are.total in
       let below : ticks_of limits.cell ≤ limits.path.ticks = subst (λ n. ticks_of limits.cell ≤ n) (sym are.path.ticks) (cell_below limits.cell are.cell) in
-      let most : max (ticks_of limits.cell) limits.path.ticks ≡ limits.path.ticks = omega (arith, below) in
-      ap (λ n. max n (max limits.client.ticks (max (ticks_of limits.cell) limits.path.ticks))) share
-      ∙ ap (λ n. max (share_in workers (total_of work)) (max n (max (ticks_of limits.cell) limits.path.ticks))) are.client.ticks
+      let shared = writes_below instance.trace.messages limits.writes limits.cell are.writes are.cell in
+      let most : max (ticks_of limits.writes) (max (ticks_of limits.cell) limits.path.ticks) ≡ limits.path.ticks = omega (arith, below, shared) in
+      let cells : ℕ = max (ticks_of limits.writes) (max (ticks_of limits.cell) limits.path.ticks) in
+      ap (λ n. max n (max limits.client.ticks cells)) share
+      ∙ ap (λ n. max (share_in workers (total_of work)) (max n cells)) are.client.ticks
       ∙ ap (λ n. max (share_in workers (total_of work)) (max (greatest (map (client_finish work) (range_with_len 1 work.count))) n)) (most ∙ are.path.ticks)
 
   pub none_below : (workers : Option ℕ) (start other : ℕ → ℕ) (limits : Limits) → IfSome workers IsWorkers → AreLimits instance start limits
@@ -117,6 +124,32 @@ module _ (instance : Instance) (layout : Hierarchy) (under : IsUnder layout inst
       → KeepsOrderWhere (has_clients instance.trace.version) instance start other → limits.order ≤ length_of work other
   shortest start other limits least are keeps =
       subst (λ n. n ≤ length_of work other) (sym are.order) (shortest_by instance.trace.version start other timings least keeps)
+
+  known : All (λ a. a < length instance.tree) instance.assigned
+  known k d within =
+      let here = affinity_known layout under.is_layout instance.trace instance.assigned under.is_trace under.fits under.assignment (suc k) (omega arith)
+      (omega (arith, within, under.assignment.count)) in
+      let at : suc k - 1 ≡ k = omega arith in
+      subst (λ a. a < length instance.tree) (ap (λ i. get_or instance.assigned i 0) at ∙ get_or_default instance.assigned k 0 d within)
+      (subst (λ tree. affinity_of instance.assigned (suc k) < length tree) under.tree here)
+
+  -- where all messages may start at once
+  module _ (free : All StartsAtOnce instance.trace.messages) where
+    at_once : (m : ℕ) → IsAmongFirst (length instance.trace.messages) m → StartsAtOnce (message_of instance.trace.messages m)
+    at_once m number = free (m - 1) no_message (omega (arith, number.from, number.to))
+
+    no_floor : (m : ℕ) → IsNumber work m → work.floor m ≡ 0
+    no_floor m number =
+        let there : IsAmongFirst (length instance.trace.messages) m = subst (λ n. IsAmongFirst n m) (length-timings_of instance.trace.messages) number in
+        let message = at_once m there in
+        floor_alone instance.trace.messages m there message.no_client message.no_think ∙ message.no_release
+
+    pub reached : TreeIsReached instance.tree instance.assigned work → (start : ℕ → ℕ) (limits : Limits) → AreLimits instance start limits
+        → (other : ℕ → ℕ) × ObeysInSomeOrder instance.tree instance.assigned work None other × (length_of work other ≡ limits.path.ticks)
+    reached law start limits are =
+        let met = law is_tree count known
+        (timings_alone instance.trace.messages (λ m number. let message = at_once m number in message.no_client)) no_floor in
+        (tree_start instance.tree instance.assigned work, met.0, met.1 ∙ sym are.path.ticks)
 
 -- a peak is one
 peak_of : ℕ → ℕ → Peak
@@ -174,29 +207,32 @@ module _ (used : Cell → ℕ) where
             absurd (omega (arith, before, after))
       ]
 
-  most_of_is_one : (one other : Option CellUse) → IsMostOf used one → IsMostOf used other → one ≡ other
+  pub most_of_is_one : (one other : Option CellUse) → IsMostOf used one → IsMostOf used other → one ≡ other
   most_of_is_one None None p q = refl
   most_of_is_one None (Some other) p q = absurd (omega (arith, p other.cell, q.ticks, q.some))
   most_of_is_one (Some one) None p q = absurd (omega (arith, q one.cell, p.ticks, p.some))
   most_of_is_one (Some one) (Some other) p q = ap Some (most_is_one one other p q)
 
-limits_with : ℕ → Peak → Option CellUse → Peak → ℕ → Limits
-limits_with total client cell path order = record { total = total; client = client; cell = cell; path = path; order = order }
+limits_with : ℕ → Peak → Option CellUse → Option CellUse → Peak → ℕ → Limits
+limits_with total client writes cell path order =
+    record { total = total; client = client; writes = writes; cell = cell; path = path; order = order }
 
-same_limits : (one other : Limits) → one.total ≡ other.total → one.client ≡ other.client → one.cell ≡ other.cell → one.path ≡ other.path → one.order ≡ other.order → one ≡ other
+same_limits : (one other : Limits) → one.total ≡ other.total → one.client ≡ other.client → one.writes ≡ other.writes → one.cell ≡ other.cell → one.path ≡ other.path → one.order ≡ other.order → one ≡ other
 unfolding limits_with
-same_limits one other totals clients cells paths orders =
-    ap (λ t. limits_with t one.client one.cell one.path one.order) totals
-    ∙ ap (λ c. limits_with other.total c one.cell one.path one.order) clients
-    ∙ ap (λ c. limits_with other.total other.client c one.path one.order) cells
-    ∙ ap (λ p. limits_with other.total other.client other.cell p one.order) paths
-    ∙ ap (limits_with other.total other.client other.cell other.path) orders
+same_limits one other totals clients writes cells paths orders =
+    ap (λ t. limits_with t one.client one.writes one.cell one.path one.order) totals
+    ∙ ap (λ c. limits_with other.total c one.writes one.cell one.path one.order) clients
+    ∙ ap (λ c. limits_with other.total other.client c one.cell one.path one.order) writes
+    ∙ ap (λ c. limits_with other.total other.client other.writes c one.path one.order) cells
+    ∙ ap (λ p. limits_with other.total other.client other.writes other.cell p one.order) paths
+    ∙ ap (limits_with other.total other.client other.writes other.cell other.path) orders
 
 pub limits_are_one : (instance : Instance) → LimitsAreOne instance
 limits_are_one instance start other one another same p q =
     let work = work_of_instance instance in
     same_limits one another (p.total ∙ sym q.total)
     (peak_is_one (client_finish work) 1 work.count one.client another.client p.client q.client)
+    (most_of_is_one (ticks_shared instance.trace.messages) one.writes another.writes p.writes q.writes)
     (most_of_is_one (ticks_on instance.trace.messages) one.cell another.cell p.cell q.cell)
     (peak_is_one (path_cost instance.tree instance.assigned work) 0 (length instance.tree) one.path another.path p.path q.path)
     (p.order ∙ same_length work start other same ∙ sym q.order)
@@ -212,3 +248,9 @@ order_is_shortest instance layout start other limits under least are keeps = sho
 
 pub order_is_not_below : (instance : Instance) → OrderIsNotBelow instance
 order_is_not_below instance layout start limits under least are = not_below instance layout under start limits least are
+
+pub path_is_reached : (instance : Instance) → TreeIsReached instance.tree instance.assigned (work_of_instance instance) → PathIsReached instance
+path_is_reached instance law layout start limits under are free = reached instance layout under free law start limits are
+
+pub clients_finish : (work : Work) → ClientsFinish work
+clients_finish work follows m number = client_is work follows m number

@@ -1,5 +1,5 @@
 -- The cell that is used longest lies in a space, and the text of what limits a workload in its parts.
-use Rattle.std.proofs.Common.{◌≡◌, ℕ, ◌<◌, inl, inr, suc, List, [], ◌∷◌, ◌++◌, All, Option, Some, None, IfSome, sym, ◌∙◌, ap, subst, arith, append_assoc}
+use Rattle.std.proofs.Common.{◌≡◌, ℕ, ◌<◌, ◌≤◌, inl, inr, suc, List, [], ◌∷◌, ◌++◌, All, Option, Some, None, IfSome, sym, ◌∙◌, ap, subst, arith, append_assoc}
 use Rattle.std.specs.List.{list_any}
 use Rattle.std.proofs.lemmas.Bool.{cases_Bool, cond-false}
 use Rattle.std.proofs.lemmas.Grind.{flat_map-append}
@@ -36,25 +36,32 @@ lies_by version sizes (m ∷ ms) cell all some = elim (cases_Bool (list_any (is_
 pub used_lies : (trace : Arrivals) → IsTrace trace → (cell : Cell) → 0 < ticks_on trace.messages cell → LiesIn trace.sizes cell
 used_lies trace is cell some = lies_by trace.version trace.sizes trace.messages cell is.messages some
 
+-- what is used for some ticks, where each cell of some ticks is used by messages, lies in a space
+pub most_is_cell : (spaces : List Space) (trace : Arrivals) → IsTrace trace → trace.sizes ≡ sizes_of spaces → (used : Cell → ℕ)
+    → ((cell : Cell) → used cell ≤ ticks_on trace.messages cell) → (found : Option CellUse) → IsMostOf used found → IfSome found (λ one. IsCell spaces one.cell)
+most_is_cell spaces trace is fits used less None most = tt
+most_is_cell spaces trace is fits used less (Some one) most =
+    lies_in-sizes_of spaces one.cell (subst (λ sizes. LiesIn sizes one.cell) fits (used_lies trace is one.cell (omega (arith, most.some, most.ticks, less one.cell))))
+
 pub most_used_is_cell : (spaces : List Space) (trace : Arrivals) → IsTrace trace → trace.sizes ≡ sizes_of spaces → (found : Option CellUse)
     → IsMostOf (ticks_on trace.messages) found → IfSome found (λ one. IsCell spaces one.cell)
-most_used_is_cell spaces trace is fits None most = tt
-most_used_is_cell spaces trace is fits (Some one) most =
-    lies_in-sizes_of spaces one.cell (subst (λ sizes. LiesIn sizes one.cell) fits (used_lies trace is one.cell (omega (arith, most.some, most.ticks))))
+most_used_is_cell spaces trace is fits = most_is_cell spaces trace is fits (ticks_on trace.messages) (λ cell. omega arith)
 
--- four lines one after another
-pub four_lines : (a b c d : List (List ℕ)) (old one two three four : List ℕ) → one ≡ old ++ line_text a → two ≡ one ++ line_text b → three ≡ two ++ line_text c
-    → four ≡ three ++ line_text d → four ≡ old ++ text_of (a ∷ b ∷ c ∷ d ∷ [])
-four_lines a b c d old one two three four h k l m =
+-- five lines one after another
+pub five_lines : (a b c d e : List (List ℕ)) (old one two three four five : List ℕ) → one ≡ old ++ line_text a → two ≡ one ++ line_text b → three ≡ two ++ line_text c
+    → four ≡ three ++ line_text d → five ≡ four ++ line_text e → five ≡ old ++ text_of (a ∷ b ∷ c ∷ d ∷ e ∷ [])
+five_lines a b c d e old one two three four five h k l m n =
     let x = line_text a in
     let y = line_text b in
     let z = line_text c in
     let w = line_text d in
-    m ∙ ap (λ t. t ++ w) (l ∙ ap (λ t. t ++ z) (k ∙ ap (λ t. t ++ y) h))
-    ∙ append_assoc ((old ++ x) ++ y) z w
-    ∙ append_assoc (old ++ x) y (z ++ w)
-    ∙ append_assoc old x (y ++ (z ++ w))
-    ∙ ap (λ t. old ++ (x ++ (y ++ (z ++ t)))) (sym (append-nil w))
+    let v = line_text e in
+    n ∙ ap (λ t. t ++ v) (m ∙ ap (λ t. t ++ w) (l ∙ ap (λ t. t ++ z) (k ∙ ap (λ t. t ++ y) h)))
+    ∙ append_assoc (((old ++ x) ++ y) ++ z) w v
+    ∙ append_assoc ((old ++ x) ++ y) z (w ++ v)
+    ∙ append_assoc (old ++ x) y (z ++ (w ++ v))
+    ∙ append_assoc old x (y ++ (z ++ (w ++ v)))
+    ∙ ap (λ t. old ++ (x ++ (y ++ (z ++ (w ++ t))))) (sym (append-nil v))
 
 -- a first line, and three parts
 pub four_parts : (first : List (List ℕ)) (rows more end : List (List (List ℕ))) (one two three four : List ℕ) → one ≡ line_text first → two ≡ one ++ text_of rows

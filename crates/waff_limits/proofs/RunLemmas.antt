@@ -1,12 +1,13 @@
 -- Cells in a row: which operations name them, and what edges tell of them.
-use Rattle.std.proofs.Common.{◌≡◌, inl, inr, ℕ, ◌+◌, ◌^◌, ◌<◌, ◌≤◌, ◌||◌, Bool, true, false, cond, nat_lt, List, [], ◌∷◌, ◌++◌, refl, ◌∙◌, ap, arith}
+use Rattle.std.proofs.Common.{◌≡◌, inl, inr, ℕ, ◌+◌, ◌^◌, ◌<◌, ◌≤◌, ◌||◌, ◌&&◌, Bool, true, false, cond, nat_le, nat_lt, List, [], ◌∷◌, ◌++◌, refl, sym, ◌∙◌, ap, arith}
 use Rattle.std.specs.List.{list_any}
-use Rattle.std.proofs.lemmas.Bool.{cases_Bool, cond-false, cond-true, ltb-false, ltb-true}
+use Rattle.std.proofs.lemmas.Bool.{cases_Bool, cond-false, cond-true, le-ltb, lt-ltb, ltb-false, ltb-true}
 use Rattle.std.proofs.lemmas.List.Folds.{list_any-append}
 use Rattle.std.proofs.lemmas.List.Sums.{sum_by_push}
 use Rattle.waff_model.specs.declared.cell.Cell.{Cell}
 use Rattle.waff_limits.specs.Data.{is_cell}
 use Rattle.waff_limits.specs.Edges.{AreUsed, begun_at, ended_at, if_before, place_of}
+use Rattle.waff_limits.specs.Readings.{with_places}
 use Rattle.waff_limits.specs.Runs.{AreOfRun, is_in_run, used_in_run}
 use Rattle.waff_limits.specs.declared.edges.Edge.{Edge}
 use Rattle.waff_limits.specs.declared.runs.Run.{Run}
@@ -39,45 +40,67 @@ one_behind cells space first last filled are cell =
     or_false true = refl
     or_false false = refl
 
--- the cells of a run have two edges
-module _ (run : Run) (cost place end : ℕ) (used : Cell → ℕ) (filled : run.first ≤ run.last) (short : run.last < 2 ^ 32)
-    (is_place : place ≡ place_of (cell_of run.space run.first)) (is_end : end ≡ place_of (cell_of run.space run.last)) where
+-- whether a place is one of those from the first to the last
+abbrev pub between : ℕ → ℕ → ℕ → Bool
+between first last place = nat_le first place && nat_le place last
+
+-- the places of a run are those of its cells
+pub in_run : (space first last : ℕ) (cell : Cell) → first < 2 ^ 32 → last < 2 ^ 32 → cell.index < 2 ^ 32
+    → between (place_of (cell_of space first)) (place_of (cell_of space last)) (place_of cell) ≡ is_in_run (run_from space first last) cell
+in_run space first last cell short until small = grind (arith, short, until, small)
+
+far_from_run : (space first last : ℕ) (cell : Cell) → last < 2 ^ 32 → 2 ^ 32 ≤ cell.index → is_in_run (run_from space first last) cell ≡ false
+far_from_run space first last cell until far = grind (arith, far, until)
+
+-- what is used at these places is used in the run
+pub used_there : (used : Cell → ℕ) (space first last cost : ℕ) → first < 2 ^ 32 → last < 2 ^ 32 → (cell : Cell)
+    → with_places used (place_of (cell_of space first)) (place_of (cell_of space last)) cost cell ≡ used_in_run (run_from space first last) used cost cell
+used_there used space first last cost short until cell =
+    let b : Bool = between (place_of (cell_of space first)) (place_of (cell_of space last)) (place_of cell) in
+    elim (cases_Bool (nat_lt cell.index (2 ^ 32))) [
+      | inl held ↦
+          ap (λ x. used cell + cond x cost 0)
+          (ap (λ x. x && b) held ∙ in_run space first last cell short until (ltb-true cell.index (2 ^ 32) held))
+      | inr failed ↦
+          ap (λ x. used cell + cond x cost 0)
+          (ap (λ x. x && b) failed ∙ sym (far_from_run space first last cell until (ltb-false cell.index (2 ^ 32) failed)))
+    ]
+
+-- places in a row have two edges
+module _ (first last cost : ℕ) (used : Cell → ℕ) (filled : first ≤ last) where
   abbrev begin_edge : Edge
-  begin_edge = edge_of place cost 0
+  begin_edge = edge_of first cost 0
 
   abbrev end_edge : Edge
-  end_edge = edge_of end 0 cost
+  end_edge = edge_of last 0 cost
 
-  before_none : (cell : Cell) → cell.index < 2 ^ 32 → place_of cell < place_of (cell_of run.space run.first) → is_in_run run cell ≡ false
-  before_none cell small lt = grind (arith, lt, small, filled, short)
+  abbrev is_there : Cell → Bool
+  is_there cell = nat_lt cell.index (2 ^ 32) && between first last (place_of cell)
 
-  behind_none : (cell : Cell) → cell.index < 2 ^ 32 → place_of (cell_of run.space run.last) < place_of cell → is_in_run run cell ≡ false
-  behind_none cell small lt = grind (arith, lt, small, filled, short)
+  is_between : (cell : Cell) → cell.index < 2 ^ 32 → is_there cell ≡ between first last (place_of cell)
+  is_between cell small = ap (λ b. b && between first last (place_of cell)) (lt-ltb cell.index (2 ^ 32) small)
 
   -- what the two edges make of the ticks of a cell
   counts : (cell : Cell) → cell.index < 2 ^ 32
-      → if_before ends_of (place_of cell) end_edge + cond (is_in_run run cell) cost 0 ≡ if_before begins_of (place_of cell + 1) begin_edge
+      → if_before ends_of (place_of cell) end_edge + cond (is_there cell) cost 0 ≡ if_before begins_of (place_of cell + 1) begin_edge
   counts cell small =
       let p = place_of cell in
-      elim (cases_Bool (nat_lt p place)) [
+      elim (cases_Bool (nat_lt p first)) [
         | inl held ↦
-            let lt : p < place = ltb-true p place held in
-            let not = before_none cell small (omega (arith, lt, is_place)) in
-            omega (arith, cond-false (is_in_run run cell) cost 0 not, not_before ends_of p end_edge (omega (arith, lt, filled, is_place, is_end)), not_before begins_of (p + 1) begin_edge (omega (arith, lt)))
+            let lt : p < first = ltb-true p first held in
+            let not : between first last p ≡ false = grind (arith, lt) in
+            omega (arith, cond-false (is_there cell) cost 0 (is_between cell small ∙ not), not_before ends_of p end_edge (omega (arith, lt, filled)), not_before begins_of (p + 1) begin_edge (omega (arith, lt)))
         | inr failed ↦
-            let le : place ≤ p = ltb-false p place failed in
-            elim (cases_Bool (nat_lt end p)) [
+            let le : first ≤ p = ltb-false p first failed in
+            elim (cases_Bool (nat_lt last p)) [
               | inl held ↦
-                  let lt : end < p = ltb-true end p held in
-                  let not = behind_none cell small (omega (arith, lt, is_end)) in
-                  omega (arith, cond-false (is_in_run run cell) cost 0 not, is_before ends_of p end_edge lt, is_before begins_of (p + 1) begin_edge (omega (arith, le)))
+                  let lt : last < p = ltb-true last p held in
+                  let not : between first last p ≡ false = grind (arith, lt) in
+                  omega (arith, cond-false (is_there cell) cost 0 (is_between cell small ∙ not), is_before ends_of p end_edge lt, is_before begins_of (p + 1) begin_edge (omega (arith, le)))
               | inr after ↦
-                  let to : p ≤ end = ltb-false end p after in
-                  let space : run.space ≡ cell.space = omega (arith, le, to, small, short, filled, is_place, is_end) in
-                  let from : run.first ≤ cell.index = omega (arith, le, space, is_place) in
-                  let until : cell.index ≤ run.last = omega (arith, to, space, is_end) in
-                  let is : is_in_run run cell ≡ true = grind (arith, space, from, until) in
-                  omega (arith, cond-true (is_in_run run cell) cost 0 is, not_before ends_of p end_edge to, is_before begins_of (p + 1) begin_edge (omega (arith, le)))
+                  let to : p ≤ last = ltb-false last p after in
+                  let yes : between first last p ≡ true = grind (arith, le, to) in
+                  omega (arith, cond-true (is_there cell) cost 0 (is_between cell small ∙ yes), not_before ends_of p end_edge to, is_before begins_of (p + 1) begin_edge (omega (arith, le)))
             ]
       ]
 
@@ -87,11 +110,11 @@ module _ (run : Run) (cost place end : ℕ) (used : Cell → ℕ) (filled : run.
     | inr failed ↦ cond-false (nat_lt edge.place p) (amount edge) 0 failed
   ]
 
-  pub adds_run : (old kept more : List Edge)
+  pub adds_places : (old kept more : List Edge)
       → ((p : ℕ) → begun_at kept p ≡ begun_at old p) → ((p : ℕ) → ended_at kept p ≡ ended_at old p)
       → ((p : ℕ) → begun_at more p ≡ begun_at (kept ++ begin_edge ∷ []) p) → ((p : ℕ) → ended_at more p ≡ ended_at (kept ++ begin_edge ∷ []) p)
-      → AreUsed old used → AreUsed (more ++ end_edge ∷ []) (used_in_run run used cost)
-  adds_run old kept more begun ended begun_more ended_more are = record {
+      → AreUsed old used → AreUsed (more ++ end_edge ∷ []) (with_places used first last cost)
+  adds_places old kept more begun ended begun_more ended_more are = record {
     told = λ cell small.
         let p = place_of cell in
         let first_begun = sum_by_push (if_before begins_of (p + 1)) kept begin_edge in
@@ -102,6 +125,6 @@ module _ (run : Run) (cost place end : ℕ) (used : Cell → ℕ) (filled : run.
         let no_begin = none_counts begins_of end_edge refl (p + 1) in
         omega (arith, first_begun, first_ended, last_begun, last_ended, no_end, no_begin, begun p, ended p, begun_more p, ended_more p, are.told cell small, counts cell small);
     no_other = λ cell far.
-        let not : is_in_run run cell ≡ false = grind (arith, far, short) in
-        omega (arith, are.no_other cell far, cond-false (is_in_run run cell) cost 0 not);
+        let not : is_there cell ≡ false = ap (λ b. b && between first last (place_of cell)) (le-ltb cell.index (2 ^ 32) far) in
+        omega (arith, are.no_other cell far, cond-false (is_there cell) cost 0 not);
   }

@@ -1,11 +1,12 @@
 -- The ticks of the cells of one message after another.
-use Rattle.std.proofs.Common.{◌≡◌, ℕ, ◌+◌, ◌-◌, ◌*◌, ◌<◌, ◌≤◌, inl, inr, suc, cond, List, [], ◌∷◌, ◌++◌, All, length, take, get_or, Some, sum_by, arith, sym, ◌∙◌, ap}
+use Rattle.std.proofs.Common.{◌≡◌, ℕ, ◌+◌, ◌-◌, ◌*◌, ◌<◌, ◌≤◌, inl, inr, suc, cond, List, [], ◌∷◌, ◌++◌, All, length, take, get_or, Some, sum_by, arith, map, max, refl, sym, ◌∙◌, ap}
 use Rattle.std.specs.Cmp.{both_ways}
 use Rattle.std.specs.List.{list_any}
 use Rattle.std.specs.Prelude.{slice_get}
 use Rattle.std.proofs.lemmas.Bool.{cases_Bool, cond-false, cond-true}
-use Rattle.std.proofs.lemmas.List.{length-take, take_more}
+use Rattle.std.proofs.lemmas.List.{length-take, map_push, take_more}
 use Rattle.std.proofs.lemmas.List.Elements.{All-take}
+use Rattle.std.proofs.lemmas.List.Recursion.{max_push}
 use Rattle.std.proofs.lemmas.List.Sums.{sum_by-append, sum_by-cons}
 use Rattle.std.proofs.lemmas.Map.Views.{Contains-from_any, list_any-from_Contains}
 use Rattle.std.proofs.lemmas.Option.{get_or_from_slice_get}
@@ -17,10 +18,11 @@ use Rattle.waff_model.specs.declared.limits.TheConstants.{MAX_COST}
 use Rattle.waff_model.specs.declared.message.Message.{Message}
 use Rattle.waff_assign.specs.Footprint.{ListsFootprint}
 use Rattle.waff_assign.proofs.CellOrder.{cell_eq_equiv, cell_eq_same}
+use Rattle.waff_plan.specs.Work.{greatest}
 use Rattle.waff_limits.specs.Data.{cost_on, is_cell, ticks_on, used_among}
 
 -- a footprint has the cells that the operations name
-has_same : (messages : List Message) (n : ℕ) (message : Message) (cells : List Cell) (cell : Cell) → slice_get messages (n - 1) ≡ Some message
+pub has_same : (messages : List Message) (n : ℕ) (message : Message) (cells : List Cell) (cell : Cell) → slice_get messages (n - 1) ≡ Some message
     → ListsFootprint messages n cells → list_any (is_cell cell) cells ≡ list_any (is_cell cell) (cells_of message.ops)
 has_same messages n message cells cell is lists =
     let each = lists.each message is cell in
@@ -29,18 +31,31 @@ has_same messages n message cells cell is lists =
     (λ there. list_any-from_Contains cell_eq_equiv cell cells (each.1 (Contains-from_any cell_eq_same cell (cells_of message.ops) there)))
 
 -- one message more
-pub ticks_with : (messages : List Message) (n : ℕ) (message : Message) → IsAmongFirst (length messages) n
-    → slice_get messages (n - 1) ≡ Some message → (cell : Cell)
-    → ticks_on (take n messages) cell ≡ used_among (cells_of message.ops) (ticks_on (take (n - 1) messages)) message.cost cell
-ticks_with messages n message number is cell =
+taken_with : (messages : List Message) (n : ℕ) (message : Message) → IsAmongFirst (length messages) n
+    → slice_get messages (n - 1) ≡ Some message → take n messages ≡ take (n - 1) messages ++ message ∷ []
+taken_with messages n message number is =
     let back : n ≡ n - 1 + 1 = omega (arith, number.from) in
     let there : n - 1 < length messages = omega (arith, number.from, number.to) in
     let last : get_or messages (n - 1) message ≡ message = get_or_from_slice_get messages (n - 1) message message is in
-    let more : take n messages ≡ take (n - 1) messages ++ message ∷ []
-    = ap (λ k. take k messages) back ∙ take_more messages (n - 1) message there ∙ ap (λ m. take (n - 1) messages ++ m ∷ []) last in
-    let sum = ap (λ ms. ticks_on ms cell) more ∙ sum_by-append (cost_on cell) (take (n - 1) messages) (message ∷ []) in
-    let one = sum_by-cons (cost_on cell) message [] in
+    ap (λ k. take k messages) back ∙ take_more messages (n - 1) message there ∙ ap (λ m. take (n - 1) messages ++ m ∷ []) last
+
+pub sum_with : (f : Message → ℕ) (messages : List Message) (n : ℕ) (message : Message) → IsAmongFirst (length messages) n
+    → slice_get messages (n - 1) ≡ Some message → sum_by f (take n messages) ≡ sum_by f (take (n - 1) messages) + f message
+sum_with f messages n message number is =
+    let sum = ap (sum_by f) (taken_with messages n message number is) ∙ sum_by-append f (take (n - 1) messages) (message ∷ []) in
+    let one = sum_by-cons f message [] in
     omega (arith, sum, one)
+
+pub greatest_with : (f : Message → ℕ) (messages : List Message) (n : ℕ) (message : Message) → IsAmongFirst (length messages) n
+    → slice_get messages (n - 1) ≡ Some message → greatest (map f (take n messages)) ≡ max (greatest (map f (take (n - 1) messages))) (f message)
+greatest_with f messages n message number is =
+    ap (λ ms. greatest (map f ms)) (taken_with messages n message number is) ∙ ap greatest (map_push f (take (n - 1) messages) message)
+    ∙ max_push greatest (λ x. x) refl (λ _ _. refl) (map f (take (n - 1) messages)) (f message)
+
+pub ticks_with : (messages : List Message) (n : ℕ) (message : Message) → IsAmongFirst (length messages) n
+    → slice_get messages (n - 1) ≡ Some message → (cell : Cell)
+    → ticks_on (take n messages) cell ≡ used_among (cells_of message.ops) (ticks_on (take (n - 1) messages)) message.cost cell
+ticks_with messages n message number is cell = sum_with (cost_on cell) messages n message number is
 
 -- and by its footprint
 pub ticks_more : (messages : List Message) (n : ℕ) (message : Message) (cells : List Cell) → IsAmongFirst (length messages) n

@@ -1,8 +1,8 @@
 -- What the data say of every tree of affinities, and what limits say of all plans.
-use Rattle.std.specs.Prelude.{◌≡◌, ℕ, ◌≤◌, max, Bool, true, false, List, Option, None, IfSome, length, map}
+use Rattle.std.specs.Prelude.{◌≡◌, ℕ, ◌+◌, ◌≤◌, max, All, Bool, true, false, List, Option, None, IfSome, length, map, option_map}
 use Rattle.std.specs.List.{range_with_len}
 use Rattle.waff_model.specs.Layout.{Hierarchy, IsCell, IsLayout}
-use Rattle.waff_model.specs.Messages.{IsTrace, sizes_of}
+use Rattle.waff_model.specs.Messages.{IsTrace, no_client, sizes_of}
 use Rattle.waff_model.specs.Versions.{has_clients}
 use Rattle.waff_model.specs.declared.cell.Cell.{Cell}
 use Rattle.waff_model.specs.declared.message.Message.{Message}
@@ -10,14 +10,16 @@ use Rattle.waff_assign.specs.Instance.{Instance, before_in}
 use Rattle.waff_assign.specs.Lowest.{IsAssignment}
 use Rattle.waff_plan.specs.Bound.{IsWorkers}
 use Rattle.waff_plan.specs.Instances.{served_first, work_of_instance}
-use Rattle.waff_plan.specs.LowerBound.{ObeysInSomeOrder, lower_bound_of, path_cost, share_in}
-use Rattle.waff_plan.specs.Obeys.{IsLeast, Obeys}
+use Rattle.waff_plan.specs.LowerBound.{ObeysInSomeOrder, client_finish, lower_bound_of, path_cost, share_in}
+use Rattle.waff_plan.specs.Obeys.{FollowsEarlier, IsLeast, Obeys}
 use Rattle.waff_plan.specs.ServesAs.{ServesAs}
 use Rattle.waff_plan.specs.Timetable.{work_of_messages}
 use Rattle.waff_plan.specs.Unique.{AreSame}
-use Rattle.waff_plan.specs.Work.{greatest, length_of}
-use Rattle.waff_limits.specs.Data.{ticks_on}
+use Rattle.waff_plan.specs.Work.{IsNumber, Work, greatest, issue_after, length_of}
+use Rattle.waff_limits.specs.Data.{IsMostOf, ticks_on}
 use Rattle.waff_limits.specs.Limits.{AreLimits, ticks_of}
+use Rattle.waff_limits.specs.Writes.{ticks_shared}
+use Rattle.waff_limits.specs.declared.data.CellUse.{CellUse}
 use Rattle.waff_limits.specs.declared.limits.Limits.{Limits}
 
 -- the greatest sum of the costs of messages that run in one affinity or above it
@@ -31,6 +33,12 @@ DataBoundsTree layout messages assigned =
     IsLayout layout → IsAssignment layout messages assigned → (cell : Cell) → IsCell layout.spaces cell
     → ticks_on messages cell ≤ tree_ticks layout messages assigned
 
+-- what messages need of a cell where those that only read it share it is no more than what they need of the cell that they use longest
+abbrev pub WritesBoundData : List Message → Type 0
+WritesBoundData messages =
+    (writes used : Option CellUse) → IsMostOf (ticks_shared messages) writes → IsMostOf (ticks_on messages) used
+    → ticks_of writes ≤ ticks_of used
+
 -- an instance of a layout: a trace over its spaces, and for each message the lowest affinity that covers its footprint
 pub record IsUnder (layout : Hierarchy) (instance : Instance) : Type 0 where
   pub is_layout : IsLayout layout
@@ -42,7 +50,8 @@ pub record IsUnder (layout : Hierarchy) (instance : Instance) : Type 0 where
 -- the greatest of what limits in whatever order, for so many workers or without a limit on them
 abbrev pub greatest_limit : Option ℕ → Limits → ℕ
 greatest_limit workers limits =
-    max (share_in workers limits.total) (max limits.client.ticks (max (ticks_of limits.cell) limits.path.ticks))
+    max (share_in workers limits.total)
+    (max limits.client.ticks (max (ticks_of limits.writes) (max (ticks_of limits.cell) limits.path.ticks)))
 
 -- it is the lower bound on the length of plans
 abbrev pub LimitsAreLowerBound : Instance → Type 0
@@ -75,6 +84,27 @@ OrderIsNotBelow instance =
     (layout : Hierarchy) (start : ℕ → ℕ) (limits : Limits) → IsUnder layout instance
     → IsLeast (served_first instance start) (work_of_instance instance) start → AreLimits instance start limits
     → greatest_limit None limits ≤ limits.order
+
+-- a message that may start at once: it has no release, no think time and no client
+pub record StartsAtOnce (message : Message) : Type 0 where
+  pub no_release : message.release ≡ 0
+  pub no_think : message.think ≡ 0
+  pub no_client : message.client ≡ no_client
+
+-- where all messages may, a plan that obeys in some order is as long as what runs on one path of affinities
+abbrev pub PathIsReached : Instance → Type 0
+PathIsReached instance =
+    (layout : Hierarchy) (start : ℕ → ℕ) (limits : Limits) → IsUnder layout instance → AreLimits instance start limits
+    → All StartsAtOnce instance.trace.messages
+    → (other : ℕ → ℕ) × ObeysInSomeOrder instance.tree instance.assigned (work_of_instance instance) None other
+    × (length_of (work_of_instance instance) other ≡ limits.path.ticks)
+
+-- a message that waits for its client alone has finished its cost after its issue
+abbrev pub ClientsFinish : Work → Type 0
+ClientsFinish work =
+    FollowsEarlier work → (m : ℕ) → IsNumber work m
+    → client_finish work m
+    ≡ issue_after (work.floor m) (work.think m) (option_map (client_finish work) (work.follows m)) + work.cost m
 
 -- what limits a workload is one
 abbrev pub LimitsAreOne : Instance → Type 0

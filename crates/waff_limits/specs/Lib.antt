@@ -8,3 +8,5 @@ pub mod Lifted
 pub mod WhyRows
 pub mod WhyLines
 pub mod LiftedLaws
+pub mod Readings
+pub mod Writes

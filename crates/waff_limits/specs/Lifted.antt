@@ -1,8 +1,8 @@
--- Messages that run above the owner of their own first cell, and the two cells that lift each so high.
-use Rattle.std.specs.Prelude.{◌≡◌, ◌≢◌, ℕ, ◌<◌, ◌⊎◌, List, [], ◌∷◌, All, AllPairs, Contains, Option, Some, None, length}
+-- Messages that run high, in affinities below which others lie, and the two cells that lift each so high.
+use Rattle.std.specs.Prelude.{◌≡◌, ◌↔◌, ℕ, ◌<◌, ◌⊎◌, Bool, false, List, [], ◌∷◌, All, AllPairs, Contains, IsTrue, Option, Some, None, length, slice_index_or}
 use Rattle.waff_model.specs.Layout.{Hierarchy, IsCell, Space, owner_of}
 use Rattle.waff_model.specs.Numbers.{IsAmongFirst}
-use Rattle.waff_model.specs.Tree.{AtOrAbove}
+use Rattle.waff_model.specs.Tree.{AtOrAbove, Node, parent_of}
 use Rattle.waff_model.specs.declared.cell.Cell.{Cell}
 use Rattle.waff_model.specs.declared.message.Message.{Message}
 use Rattle.waff_assign.specs.Lowest.{IsInFootprint, IsLowest}
@@ -31,22 +31,29 @@ pub record AreLifting (layout : Hierarchy) (Has : Cell → Type 0)
 abbrev pub IsUsedBy : List Message → ℕ → Cell → Type 0
 IsUsedBy messages n cell = IsInFootprint (message_of messages n).ops cell
 
--- message n is lifted: its affinity is not the owner of its first cell
-pub record IsLifted (layout : Hierarchy)
+-- others lie below the affinity: it is the parent of one
+abbrev pub IsInner : List Node → ℕ → Type 0
+IsInner tree a = (b : ℕ) × (parent_of tree b ≡ Some a)
+
+-- a mark for each affinity: whether others lie below it
+pub record AreInner (tree : List Node) (marks : List Bool) : Type 0 where
+  pub long : length marks ≡ length tree
+  pub each : (a : ℕ) → a < length tree → IsTrue (slice_index_or marks a false) ↔ IsInner tree a
+
+-- message n runs high: others lie below its affinity
+pub record RunsHigh (tree : List Node)
     (messages : List Message) (assigned : List ℕ) (n : ℕ) : Type 0 where
   pub number : IsAmongFirst (length messages) n
-  pub cell : Cell
-  pub first : IsFirst (IsUsedBy messages n) cell
-  pub above : affinity_of assigned n ≢ owner_of layout.spaces cell
+  pub inner : IsInner tree (affinity_of assigned n)
 
--- what is told of a message that is lifted: its cost, and the two cells that lift it
+-- what is told of a message that runs high: its cost, and the two cells that lift it
 pub record IsLift (layout : Hierarchy)
     (messages : List Message) (assigned : List ℕ) (lift : Lift) : Type 0 where
   pub number : IsAmongFirst (length messages) lift.message
   pub cost : lift.cost ≡ (message_of messages lift.message).cost
   pub cells : AreLifting layout (IsUsedBy messages lift.message)
       (affinity_of assigned lift.message) lift.cell lift.other
-  pub above : affinity_of assigned lift.message ≢ owner_of layout.spaces lift.cell
+  pub inner : IsInner layout.tree (affinity_of assigned lift.message)
 
 -- the lift is of one of so many messages, and its cells lie in the spaces
 pub record IsTold (spaces : List Space) (messages : ℕ) (lift : Lift) : Type 0 where
@@ -54,11 +61,11 @@ pub record IsTold (spaces : List Space) (messages : ℕ) (lift : Lift) : Type 0 
   pub cell : IsCell spaces lift.cell
   pub other : IsCell spaces lift.other
 
--- it is told of each message that is lifted, in the order of arrival
+-- it is told of each message that runs high, in the order of arrival
 pub record AreLifts (layout : Hierarchy)
     (messages : List Message) (assigned : List ℕ) (lifts : List Lift) : Type 0 where
   pub each : All (IsLift layout messages assigned) lifts
-  pub all : (n : ℕ) → IsLifted layout messages assigned n
+  pub all : (n : ℕ) → RunsHigh layout.tree messages assigned n
       → (lift : Lift) × Contains lifts lift × (lift.message ≡ n)
   pub order : AllPairs (λ one other. one.message < other.message) lifts
 

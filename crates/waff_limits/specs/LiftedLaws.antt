@@ -1,6 +1,6 @@
--- What holds of messages that run above the owner of their first cell.
-use Rattle.std.specs.Prelude.{◌≡◌, ℕ, ◌<◌, List, All, Bool, Contains, count_by, length, sum_by}
-use Rattle.waff_model.specs.Layout.{Hierarchy, IsCell, IsLayout}
+-- What holds of messages that run high, and of the cells that lift them.
+use Rattle.std.specs.Prelude.{◌≡◌, ◌↔◌, ℕ, ◌<◌, List, All, Bool, Contains, count_by, length, sum_by}
+use Rattle.waff_model.specs.Layout.{Hierarchy, IsCell, IsLayout, owner_of}
 use Rattle.waff_model.specs.declared.cell.Cell.{Cell}
 use Rattle.waff_assign.specs.Lowest.{IsLowest}
 use Rattle.waff_limits.specs.Lifted.{AreLifting}
@@ -19,6 +19,13 @@ abbrev pub LiftingIsOne : Hierarchy → List Cell → Type 0
 LiftingIsOne layout cells =
     (a : ℕ) (cell other one another : Cell) → AreLifting layout (Contains cells) a cell other
     → AreLifting layout (Contains cells) a one another → (cell ≡ one) × (other ≡ another)
+
+-- the first cell lifts alone, with no other one, exactly where its owner is the affinity
+abbrev pub AloneIsOwner : Hierarchy → List Cell → Type 0
+AloneIsOwner layout cells =
+    (a : ℕ) (cell other : Cell) → IsLayout layout → IsLowest layout (Contains cells) a
+    → AreLifting layout (Contains cells) a cell other
+    → (cell ≡ other) ↔ (a ≡ owner_of layout.spaces cell)
 
 -- each lift is told of in one row, so that the rows have as many messages as there are lifts, and these
 -- cost as much

@@ -16,14 +16,16 @@ use Rattle.waff_plan_text.specs.Ratio.{ratio_field}
 use Rattle.waff_plan_text.specs.Spelling.{worker_field}
 use Rattle.waff_figures.specs.declared.figures.Figures.{Figures}
 use Rattle.waff_limits.specs.Data.{IsMostOf, ticks_on}
+use Rattle.waff_limits.specs.Writes.{ticks_shared}
 use Rattle.waff_limits.specs.declared.data.CellUse.{CellUse}
 use Rattle.waff_limits.specs.declared.limits.Limits.{Limits}
 
 -- what limits the messages of an instance, of which the unlimited plan has these starts: the sum of their costs, the client that needs
--- longest, the cell that is used longest, the affinity that has the most to run in it and above it, and the length of that plan
+-- longest, the cell that is needed longest where those that only read it share it, the cell that is used longest, the affinity that has the most to run in it and above it, and the length of that plan
 pub record AreLimits (instance : Instance) (start : ℕ → ℕ) (limits : Limits) : Type 0 where
   pub total : limits.total ≡ total_of (work_of_instance instance)
   pub client : IsPeak (client_finish (work_of_instance instance)) 1 (work_of_instance instance).count limits.client
+  pub writes : IsMostOf (ticks_shared instance.trace.messages) limits.writes
   pub cell : IsMostOf (ticks_on instance.trace.messages) limits.cell
   pub path : IsPeak (path_cost instance.tree instance.assigned (work_of_instance instance)) 0 (length instance.tree) limits.path
   pub order : limits.order ≡ length_of (work_of_instance instance) start
@@ -66,6 +68,7 @@ affinity_field tree peak = if peak.ticks == 0 then codes "-" else name_of tree p
 abbrev pub bound_lines : List Space → List Node → List Message → Limits → List (List (List ℕ))
 bound_lines spaces tree messages limits =
     limit_row (codes "clients") None limits.total limits.client.ticks (client_field messages limits.client)
+    ∷ limit_row (codes "writes") None limits.total (ticks_of limits.writes) (cell_field spaces limits.writes)
     ∷ limit_row (codes "data") None limits.total (ticks_of limits.cell) (cell_field spaces limits.cell)
     ∷ limit_row (codes "tree") None limits.total limits.path.ticks (affinity_field tree limits.path)
     ∷ limit_row (codes "order") None limits.total limits.order (codes "-")

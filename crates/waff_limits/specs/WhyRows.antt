@@ -1,4 +1,4 @@
--- Lifted messages told together: those that are alike and that owners of the same two affinities lift.
+-- Messages that run high told together: those that are alike and that owners of the same two affinities lift.
 use Rattle.std.specs.Prelude.{◌≡◌, ℕ, ◌+◌, ◌-◌, ◌<◌, ◌⊎◌, ◌==◌, ◌&&◌, Bool, true, false, List, [], ◌∷◌, ◌++◌, AllPairs}
 use Rattle.std.specs.Prelude.{length, map, slice_index_or, slice_set, sum_by}
 use Rattle.std.specs.List.{filter}

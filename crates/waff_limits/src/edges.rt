@@ -10,6 +10,7 @@ ghost use Rattle.waff_limits.specs.Data.{IsMore, IsMostOf, used_among};
 ghost use Rattle.waff_limits.specs.Edges.{AreSmall, AreUsed, IsCellAt, IsMostAt};
 ghost use Rattle.waff_limits.specs.Edges.{begun_at, edges_of, ended_at};
 ghost use Rattle.waff_limits.specs.Edges as specs;
+ghost use Rattle.waff_limits.specs.Readings.{with_places};
 ghost use Rattle.waff_limits.specs.Runs.{used_in_run};
 ghost use Rattle.waff_limits.specs.declared.edges.Edge.{Edge as EdgeOf};
 
@@ -86,20 +87,29 @@ impl Edges {
             → AreUsed (edges_of self.new) (used_in_run run used cost)) }
     {
         let Run { space, first, last } = run;
-        let before = self.last;
-        self.keep(before)?;
-        let place = place_of(Cell {
+        let last = place_of(Cell { space, index: last });
+        let first = place_of(Cell {
             space,
             index: first,
         });
+        self.add_places(first, last, cost)
+    }
+
+    /// Each cell from one place to another is used for so many ticks more.
+    pub(crate) fn add_places(&mut self, first: u64, last: u64, cost: u32) -> Result<(), AllocError>
+        requires filled { first ≤ last }
+        ensures { OnOk result ((used : Cell → ℕ) → AreUsed (edges_of self.old) used
+            → AreUsed (edges_of self.new) (with_places used first last cost)) }
+    {
+        let before = self.last;
+        self.keep(before)?;
         self.keep(Edge {
-            place,
+            place: first,
             begins: cost,
             ends: 0,
         })?;
-        let place = place_of(Cell { space, index: last });
         self.last = Edge {
-            place,
+            place: last,
             begins: 0,
             ends: cost,
         };
@@ -168,7 +178,7 @@ impl Edges {
 }
 
 /// The place of a cell among all cells: by its space, then its index.
-fn place_of(cell: Cell) -> u64
+pub(crate) fn place_of(cell: Cell) -> u64
     ensures place { result ≡ specs.place_of cell }
     ensures small { cell.index < 2 ^ 32 }
 {

@@ -7,9 +7,13 @@ ghost use Rattle.waff_model.specs.declared.cell.Cell.{Cell};
 ghost use Rattle.waff_model.specs.declared.message.Message.{Message};
 ghost use Rattle.waff_assign.specs.Instance.{Instance};
 ghost use Rattle.waff_limits.specs.Data.{IsMostOf};
-ghost use Rattle.waff_limits.specs.Laws.{DataBoundsTree, LimitsAreLowerBound, LimitsAreOne};
-ghost use Rattle.waff_limits.specs.Laws.{NoneIsBelowLimits, OrderIsNotBelow, OrderIsShortest};
+ghost use Rattle.waff_plan.specs.Work.{Work};
+ghost use Rattle.waff_limits.specs.Laws.{ClientsFinish, DataBoundsTree, LimitsAreLowerBound};
+ghost use Rattle.waff_limits.specs.Laws.{LimitsAreOne, NoneIsBelowLimits, OrderIsNotBelow};
+ghost use Rattle.waff_limits.specs.Laws.{OrderIsShortest, PathIsReached, WritesBoundData};
 ghost use Rattle.waff_limits.specs.declared.data.CellUse.{CellUse};
+
+use waff_plan::lower_bound::tree_is_reached;
 
 /// There is one cell that is used most.
 pub fn most_used_is_one()
@@ -22,6 +26,12 @@ pub fn most_used_is_one()
 pub fn data_bounds_every_tree()
     ensures { (layout : Hierarchy) (messages : List Message) (assigned : List ℕ)
         → DataBoundsTree layout messages assigned }
+{}
+
+/// Whatever the hierarchy, messages use some cell for as many ticks as they need any cell where those that only read it share it. So the
+/// first is what no hierarchy makes less.
+pub fn writes_bound_data()
+    ensures { (messages : List Message) → WritesBoundData messages }
 {}
 
 /// No plan that obeys, for as many workers or without a limit on them, is shorter than the greatest of a worker's share, of what a client
@@ -43,6 +53,20 @@ pub fn order_is_shortest()
 /// The unlimited plan is no shorter than what limits in whatever order.
 pub fn order_is_not_below()
     ensures { (instance : Instance) → OrderIsNotBelow instance }
+{}
+
+/// Where no message has a release, a think time or a client, a plan that obeys in some order is as long as what runs on the longest path of
+/// affinities.
+pub fn path_is_reached()
+    ensures { (instance : Instance) → PathIsReached instance }
+{
+    tree_is_reached();
+}
+
+/// What a client needs: each of its messages has finished its cost after its issue, which is its floor, or where that is later its think time
+/// after the one that it follows.
+pub fn clients_finish()
+    ensures { (work : Work) → ClientsFinish work }
 {}
 
 /// What limits a workload is one.

@@ -3,24 +3,37 @@
 //!
 //! - `data`, over `edges` and `runs` of cells: the cell that messages use longest; `limits`: all limits of a case; `text`: their text.
 //! - `laws`: what the data say of every tree of affinities.
-//! - `laid`: a trace under a hierarchy. `lifted`: messages that run above the owner of their first cell, by `jumps` up the tree, told
-//!   together in `why_rows`; `why_text`: their text. `cell_text`: a cell in a text.
+//! - `writes`: the cell that they need longest where those that only read it share it, over `readings`.
+//! - `laid`: a trace under a hierarchy. `lifted`: messages that run high, in affinities below which others lie (`inner`), and the cells that
+//!   lift them, by `jumps` up the tree, told together in `why_rows`; `why_text`: their text. `cell_text`: a cell in a text.
+//!
+//! No plan that obeys is shorter than the greatest of the limits of workers, clients, writes, data
+//! and tree, in whatever order it serves; none that keeps the order of the unlimited plan is
+//! shorter than that one; and under no tree of affinities is a plan shorter than the use of one
+//! cell.
+//!
+//! Tests: `test_worked/src/limits.rt`; the command cases `limits-*` and `why-*` (a message that
+//! names a cell twice, the inner cell of a range, readers of ranges that overlap, clients that
+//! think; several messages in one line), and `tests/random/clients.py`.
 
 #![tactic(auto)]
 
 mod cell_text;
 pub mod data;
 mod edges;
+mod inner;
 mod jumps;
 mod laid;
 pub mod laws;
 mod lifted;
 pub mod lifted_laws;
 mod limits;
+mod readings;
 mod runs;
 mod text;
 mod why_rows;
 mod why_text;
+pub mod writes;
 
 pub use laid::Laid;
 pub use lifted::Lift;

@@ -1,4 +1,4 @@
-//! Messages that run above the owner of their own first cell.
+//! Messages that run high, in affinities below which others lie, and the cells that lift them.
 
 ghost use Rattle.std.specs.Prelude.{◌≡◌, ◌<◌, ◌≤◌, ◌↔◌, ◌∷◌, ◌++◌, [], List, All, IfOk, IfSome};
 ghost use Rattle.std.specs.Prelude.{IsTrue, MatchOption, Some, length, option_map};
@@ -10,16 +10,17 @@ ghost use Rattle.waff_model.specs.declared.cell.Cell.{Cell as CellOf};
 ghost use Rattle.waff_model.specs.declared.limits.TheConstants.{MAX_MESSAGES};
 ghost use Rattle.waff_assign.specs.Lowest.{IsAssignment, IsInFootprint, IsLowest};
 ghost use Rattle.waff_limits.specs.Jumps.{AreJumps};
-ghost use Rattle.waff_limits.specs.Lifted.{AreLifting, AreLifts, IsFirst, IsFirstAmong, IsLift, IsLifted};
+ghost use Rattle.waff_limits.specs.Lifted.{AreInner, AreLifting, AreLifts, IsFirst, IsFirstAmong, IsLift};
 ghost use Rattle.waff_limits.specs.Data.{ComesBefore};
-ghost use Rattle.waff_limits.specs.Lifted.{IsOutside, IsSooner, IsTold};
+ghost use Rattle.waff_limits.specs.Lifted.{IsOutside, IsSooner, IsTold, RunsHigh};
 
+use crate::inner::inner;
 use crate::jumps::{Jump, jumps, next_below};
 use crate::laid::Laid;
 use std::alloc::{AllocError, Global};
 use waff_model::{AffinityId, Cell, Layout, Op, Ops};
 
-/// A message that runs above the owner of its first cell.
+/// A message that runs high: others lie below its affinity.
 #[derive(Clone, Copy)]
 pub struct Lift {
     pub message: u32,
@@ -27,11 +28,11 @@ pub struct Lift {
     pub cost: u32,
     /// The first cell of its footprint.
     pub cell: Cell,
-    /// The first cell of it whose owner lifts the message so high from that of `cell`.
+    /// The first cell of it whose owner lifts the message so high from that of `cell`: `cell` itself where its own owner is the affinity.
     pub other: Cell,
 }
 
-/// What is told of the messages that run above the owner of their first cell, in the order of arrival.
+/// What is told of the messages that run high, in the order of arrival.
 pub(crate) fn lifts(alloc: Global, laid: &Laid<'_>) -> Result<Vec<Lift>, AllocError>
     requires assignment { IsAssignment laid.now.layout.now laid.now.case.trace.now.messages
         laid.now.case.assigned.now }
@@ -41,14 +42,22 @@ pub(crate) fn lifts(alloc: Global, laid: &Laid<'_>) -> Result<Vec<Lift>, AllocEr
         (length laid.now.case.trace.now.messages)) lifts.items) }
     ensures few { IfOk result (λ lifts. length lifts.items ≤ MAX_MESSAGES) }
 {
+    let inner = inner(alloc, laid.layout.tree())?;
     let jumps = jumps(alloc, laid.layout.tree())?;
-    let lifts = lifts_by(alloc, laid, jumps.as_slice());
+    let lifts = lifts_by(alloc, laid, inner.as_slice(), jumps.as_slice());
     drop(jumps);
+    drop(inner);
     lifts
 }
 
-/// The same, by jumps up the tree.
-fn lifts_by(alloc: Global, laid: &Laid<'_>, jumps: &[Jump]) -> Result<Vec<Lift>, AllocError>
+/// The same, by marks of the affinities below which others lie, and by jumps up the tree.
+fn lifts_by(
+    alloc: Global,
+    laid: &Laid<'_>,
+    inner: &[bool],
+    jumps: &[Jump],
+) -> Result<Vec<Lift>, AllocError>
+    requires inner { AreInner laid.now.layout.now.tree inner.now }
     requires jumps { AreJumps laid.now.layout.now.tree jumps.now }
     requires assignment { IsAssignment laid.now.layout.now laid.now.case.trace.now.messages
         laid.now.case.assigned.now }
@@ -60,7 +69,7 @@ fn lifts_by(alloc: Global, laid: &Laid<'_>, jumps: &[Jump]) -> Result<Vec<Lift>,
 {
     let mut lifts = Vec::new(alloc);
     for n in 1..laid.case.trace.len() + 1 {
-        match lift_of(laid, jumps, n) {
+        match lift_of(laid, inner, jumps, n) {
             Some(lift) => lifts.push(lift)?,
             None => {}
         }
@@ -68,32 +77,51 @@ fn lifts_by(alloc: Global, laid: &Laid<'_>, jumps: &[Jump]) -> Result<Vec<Lift>,
     Ok(lifts)
 }
 
-/// What is told of message `n`, if it is lifted.
-fn lift_of(laid: &Laid<'_>, jumps: &[Jump], n: u32) -> Option<Lift>
+/// What is told of message `n`, if it runs high.
+fn lift_of(laid: &Laid<'_>, inner: &[bool], jumps: &[Jump], n: u32) -> Option<Lift>
+    requires inner { AreInner laid.now.layout.now.tree inner.now }
     requires jumps { AreJumps laid.now.layout.now.tree jumps.now }
     requires number { IsAmongFirst (length laid.now.case.trace.now.messages) n }
     requires assignment { IsAssignment laid.now.layout.now laid.now.case.trace.now.messages
         laid.now.case.assigned.now }
-    ensures { MatchOption result (¬ IsLifted laid.now.layout.now laid.now.case.trace.now.messages
-        laid.now.case.assigned.now n) (λ lift. (lift.message ≡ n)
+    ensures { MatchOption result (¬ RunsHigh laid.now.layout.now.tree
+        laid.now.case.trace.now.messages laid.now.case.assigned.now n) (λ lift. (lift.message ≡ n)
         × IsTold laid.now.layout.now.spaces (length laid.now.case.trace.now.messages) lift
         × IsLift laid.now.layout.now laid.now.case.trace.now.messages laid.now.case.assigned.now lift) }
 {
     let message = laid.case.trace.message(n);
     let affinity = laid.case.assigned.of(n);
-    let cell = first_cell(laid.layout, &message.ops);
-    let owner = laid.layout.owner(cell);
-    if owner == affinity {
+    if !inner[affinity.0 as usize] {
         return None;
     }
-    let below = next_below(laid.layout.tree(), jumps, affinity, owner);
-    let other = lifting_cell(laid.layout, &message.ops, affinity, cell, below);
+    let cell = first_cell(laid.layout, &message.ops);
+    let other = other_cell(laid.layout, jumps, &message.ops, affinity, cell);
     Some(Lift {
         message: n,
         cost: message.cost,
         cell,
         other,
     })
+}
+
+/// The cell that lifts to their affinity with the first that the operations name.
+fn other_cell(layout: &Layout, jumps: &[Jump], ops: &Ops, affinity: AffinityId, first: Cell) -> Cell
+    requires jumps { AreJumps layout.now.tree jumps.now }
+    requires cells { All (IsCell layout.now.spaces) (cells_of ops.now) }
+    requires lowest { IsLowest layout.now (IsInFootprint ops.now) affinity.0 }
+    requires first { IsFirst (IsInFootprint ops.now) first }
+    requires within { IsCell layout.now.spaces first }
+    ensures lifting { AreLifting layout.now (IsInFootprint ops.now) affinity.0 first result }
+    ensures within { IsCell layout.now.spaces result }
+{
+    // Its contract tells `IsLayout`.
+    let _ = layout.space_count();
+    let owner = layout.owner(first);
+    if owner == affinity {
+        return first;
+    }
+    let below = next_below(layout.tree(), jumps, affinity, owner);
+    lifting_cell(layout, ops, affinity, first, below)
 }
 
 /// The first cell that the operations, of which there is one at least, name.

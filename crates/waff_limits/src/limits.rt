@@ -6,6 +6,7 @@ ghost use Rattle.waff_plan.specs.Planned.{planned_starts};
 ghost use Rattle.waff_limits.specs.Limits.{AreLimits};
 
 use crate::data::{CellUse, most_used_cell};
+use crate::writes::most_written_cell;
 use std::alloc::{AllocError, Global};
 use waff_plan::lower_bound::{longest_client, longest_path};
 use waff_plan::{Peak, Planned};
@@ -17,6 +18,8 @@ pub struct Limits {
     pub total: u64,
     /// The greatest finish of a message that waits for its client alone, and the message.
     pub client: Peak,
+    /// The cell that is needed longest where those that only read it share it, none for no message.
+    pub writes: Option<CellUse>,
     /// The cell that is used longest, none for no message.
     pub cell: Option<CellUse>,
     /// The greatest sum of the costs of the messages in an affinity and above it, and the affinity.
@@ -31,11 +34,13 @@ pub fn limits_of(alloc: Global, unlimited: &Planned<'_>) -> Result<Limits, Alloc
         (planned_starts unlimited.now)) }
 {
     let client = longest_client(alloc, unlimited.plan)?;
+    let writes = most_written_cell(alloc, unlimited.case.trace)?;
     let cell = most_used_cell(alloc, unlimited.case.trace)?;
     let path = longest_path(alloc, unlimited)?;
     Ok(Limits {
         total: unlimited.plan.total(),
         client,
+        writes,
         cell,
         path,
         order: unlimited.plan.length(),

@@ -1,12 +1,11 @@
 //! The text of what limits a workload.
 
-ghost use Rattle.std.specs.Prelude.{◌≡◌, ◌<◌, All, IfOk, IfSome, OnOk, None, codes};
+ghost use Rattle.std.specs.Prelude.{◌≡◌, ◌<◌, IfOk, IfSome, OnOk, None, codes};
 ghost use Rattle.std.specs.Prelude.{length, map, string_bytes};
 ghost use Rattle.waff_model.specs.Layout.{IsCell};
 ghost use Rattle.waff_model.specs.Messages.{sizes_of};
 ghost use Rattle.waff_model.specs.Numbers.{IsAmongFirst};
 ghost use Rattle.waff_assign.specs.Case.{instance_of};
-ghost use Rattle.waff_plan.specs.Bound.{IsWorkers};
 ghost use Rattle.waff_plan.specs.Laws.{share_of};
 ghost use Rattle.waff_plan.specs.Planned.{planned_starts};
 ghost use Rattle.waff_plan_text.specs.Lines.{Adds, line_text, text_of};
@@ -20,7 +19,7 @@ use crate::limits::Limits;
 use std::alloc::{AllocError, Global};
 use waff_figures::Figures;
 use waff_model::{AffinityId, Layout, Trace, Tree};
-use waff_plan::{Peak, Planned};
+use waff_plan::{Peak, Planned, Workers};
 use waff_plan_text::{Ratio, WorkerField};
 
 /// The text of what limits the messages of a case over this layout, of which this is the unlimited plan: the share of each of these
@@ -29,12 +28,11 @@ pub fn limits_text(
     alloc: Global,
     layout: &Layout,
     unlimited: &Planned<'_>,
-    workers: &[u32],
+    workers: &[Workers],
     limits: &Limits,
     listed: &[Figures],
 ) -> Result<String, AllocError>
     requires fits { unlimited.now.case.trace.now.sizes ≡ sizes_of layout.now.spaces }
-    requires workers { All IsWorkers workers.now }
     requires limits { AreLimits (instance_of unlimited.now.case)
         (planned_starts unlimited.now) limits.now }
     ensures { IfOk result (λ text. string_bytes text
@@ -57,23 +55,21 @@ fn push_header(text: &mut String) -> Result<(), AllocError>
 }
 
 /// Appends the line of each number of workers: the share of one of them.
-fn push_shares(text: &mut String, total: u64, workers: &[u32]) -> Result<(), AllocError>
-    requires workers { All IsWorkers workers.now }
+fn push_shares(text: &mut String, total: u64, workers: &[Workers]) -> Result<(), AllocError>
     ensures { OnOk result (Adds text.old text.new (text_of (map (work_row total) workers.now))) }
 {
     for k in workers {
         let share = share(total, *k);
-        push_row(text, "work", Some(*k), total, share, "-")?;
+        push_row(text, "work", Some(k.number()), total, share, "-")?;
     }
     Ok(())
 }
 
 /// The share of one of k workers, rounded up.
-fn share(total: u64, k: u32) -> u64
-    requires { IsWorkers k }
+fn share(total: u64, k: Workers) -> u64
     ensures { result ≡ share_of total k }
 {
-    total.div_ceil(u64::from(k))
+    total.div_ceil(u64::from(k.number()))
 }
 
 /// Appends the lines of what limits whatever the number of workers.
@@ -93,6 +89,7 @@ fn push_bounds(
     let Limits {
         total,
         client,
+        writes,
         cell,
         path,
         order,
@@ -107,7 +104,8 @@ fn push_bounds(
         client.ticks,
         client_name(case.trace, client),
     )?;
-    push_data(text, alloc, layout, total, cell)?;
+    push_data(text, alloc, layout, "writes", total, writes)?;
+    push_data(text, alloc, layout, "data", total, cell)?;
     push_row(
         text,
         "tree",
@@ -145,27 +143,28 @@ fn affinity_name(tree: &Tree, peak: Peak) -> &str
     }
 }
 
-/// Appends the line of the cell that is used longest.
+/// Appends the line of a limit that a cell is.
 fn push_data(
     text: &mut String,
     alloc: Global,
     layout: &Layout,
+    limit: &str,
     total: u64,
     cell: Option<CellUse>,
 ) -> Result<(), AllocError>
     requires known { IfSome cell (λ found. IsCell layout.now.spaces found.cell) }
-    ensures { OnOk result (Adds text.old text.new (line_text (limit_row (codes "data") None total
+    ensures { OnOk result (Adds text.old text.new (line_text (limit_row limit.now None total
         (ticks_of cell) (cell_field layout.now.spaces cell)))) }
 {
     match cell {
         Some(CellUse { cell, ticks }) => {
             let mut at = String::new(alloc);
             push_cell(&mut at, layout, cell)?;
-            let pushed = push_row(text, "data", None, total, ticks, at.as_str());
+            let pushed = push_row(text, limit, None, total, ticks, at.as_str());
             drop(at);
             pushed
         }
-        None => push_row(text, "data", None, total, 0, "-"),
+        None => push_row(text, limit, None, total, 0, "-"),
     }
 }
 

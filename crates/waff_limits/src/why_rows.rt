@@ -1,4 +1,4 @@
-//! Lifted messages told together.
+//! Messages that run high told together.
 
 ghost use Rattle.std.specs.Prelude.{◌≡◌, ◌+◌, ◌<◌, ◌≤◌, ◌^◌, [], ◌∷◌, All, AllPairs, false, IfOk};
 ghost use Rattle.std.specs.Prelude.{OnOk, length};
@@ -15,7 +15,7 @@ use std::cmp::Reverse;
 use waff_figures::Group;
 use waff_model::Layout;
 
-/// What is told of all lifted messages of one kind.
+/// What is told of all messages of one kind that run high.
 #[derive(Clone, Copy)]
 pub struct Row {
     /// The first of them.

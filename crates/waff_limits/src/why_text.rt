@@ -9,14 +9,15 @@ ghost use Rattle.waff_plan_text.specs.Lines.{Adds, line_text, text_of};
 ghost use Rattle.waff_figures.specs.ByName.{label_at, message_names};
 ghost use Rattle.waff_figures.specs.WaitText.{are_alike};
 ghost use Rattle.waff_limits.specs.Lifted.{AreLifts, IsTold};
-ghost use Rattle.waff_limits.specs.WhyLines.{lift_fields, owner_name, why_header, why_lines, why_row};
+ghost use Rattle.waff_limits.specs.WhyLines.{lift_fields, other_cell, other_owner, owner_name};
+ghost use Rattle.waff_limits.specs.WhyLines.{why_header, why_lines, why_row};
 ghost use Rattle.waff_limits.specs.WhyRows.{AreRows, same_kind};
 ghost use Rattle.waff_limits.specs.declared.lifted.Lift.{Lift as LiftOf};
 ghost use Rattle.waff_limits.specs.declared.why_rows.Row.{Row as RowOf};
 
 use crate::cell_text::push_cell;
 use crate::laid::Laid;
-use crate::lifted::lifts;
+use crate::lifted::{Lift, lifts};
 use crate::why_rows::{Row, rows};
 use std::alloc::{AllocError, Global};
 use waff_figures::{Grouping, groups};
@@ -45,7 +46,7 @@ pub fn lifting_text(
     Ok(text)
 }
 
-/// What is told of the lifted messages.
+/// What is told of the messages that run high.
 fn lifting_rows(alloc: Global, laid: &Laid<'_>, grouping: Grouping) -> Result<Vec<Row>, AllocError>
     requires assignment { IsAssignment laid.now.layout.now laid.now.case.trace.now.messages
         laid.now.case.assigned.now }
@@ -149,7 +150,7 @@ fn push_fields(text: &mut String, layout: &Layout, row: &Row) -> Result<(), Allo
     ensures { OnOk result (Adds text.old text.new (line_text (lift_fields layout.now row.now))) }
 {
     push_name(text, owner_name(layout, row.first.cell))?;
-    push_name(text, owner_name(layout, row.first.other))?;
+    push_name(text, other_owner(layout, &row.first))?;
     push_counts(text, layout, row)
 }
 
@@ -161,6 +162,18 @@ fn owner_name(layout: &Layout, cell: Cell) -> &str
     layout.tree().name(layout.owner(cell))
 }
 
+/// The name of the owner of the other cell, `-` where the first lifts alone.
+fn other_owner<'a>(layout: &'a Layout, lift: &Lift) -> &'a str
+    requires { IsCell layout.now.spaces lift.now.other }
+    ensures { result.now ≡ other_owner layout.now lift.now }
+{
+    if lift.cell == lift.other {
+        "-"
+    } else {
+        owner_name(layout, lift.other)
+    }
+}
+
 /// Appends how many messages a row tells of and their cost, the first of them with its cells, and the end of the line.
 fn push_counts(text: &mut String, layout: &Layout, row: &Row) -> Result<(), AllocError>
     requires cell { IsCell layout.now.spaces row.now.first.cell }
@@ -168,25 +181,37 @@ fn push_counts(text: &mut String, layout: &Layout, row: &Row) -> Result<(), Allo
     ensures { OnOk result (Adds text.old text.new
         (line_text (decimal row.now.messages ∷ decimal row.now.cost ∷ decimal row.now.first.message
         ∷ cell_spelled layout.now.spaces row.now.first.cell
-        ∷ cell_spelled layout.now.spaces row.now.first.other ∷ []))) }
+        ∷ other_cell layout.now row.now.first ∷ []))) }
 {
     push_field(text, u64::from(row.messages))?;
     push_field(text, row.cost)?;
     push_field(text, u64::from(row.first.message))?;
-    push_cells(text, layout, row.first.cell, row.first.other)
+    push_cells(text, layout, &row.first)
 }
 
-/// Appends two cells, and the end of the line.
-fn push_cells(text: &mut String, layout: &Layout, cell: Cell, other: Cell) -> Result<(), AllocError>
-    requires cell { IsCell layout.now.spaces cell }
-    requires other { IsCell layout.now.spaces other }
-    ensures { OnOk result (Adds text.old text.new (line_text (cell_spelled layout.now.spaces cell
-        ∷ cell_spelled layout.now.spaces other ∷ []))) }
+/// Appends the two cells, and the end of the line.
+fn push_cells(text: &mut String, layout: &Layout, lift: &Lift) -> Result<(), AllocError>
+    requires cell { IsCell layout.now.spaces lift.now.cell }
+    requires other { IsCell layout.now.spaces lift.now.other }
+    ensures { OnOk result (Adds text.old text.new (line_text (cell_spelled layout.now.spaces lift.now.cell
+        ∷ other_cell layout.now lift.now ∷ []))) }
 {
-    push_cell(text, layout, cell)?;
+    push_cell(text, layout, lift.cell)?;
     text.push(',')?;
-    push_cell(text, layout, other)?;
+    push_other(text, layout, lift)?;
     text.push('\n')
+}
+
+/// Appends the other cell, `-` where the first lifts alone.
+fn push_other(text: &mut String, layout: &Layout, lift: &Lift) -> Result<(), AllocError>
+    requires { IsCell layout.now.spaces lift.now.other }
+    ensures { OnOk result (Adds text.old text.new (other_cell layout.now lift.now)) }
+{
+    if lift.cell == lift.other {
+        text.push('-')
+    } else {
+        push_cell(text, layout, lift.other)
+    }
 }
 
 /// Appends a name, and a comma.

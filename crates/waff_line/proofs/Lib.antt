@@ -9,7 +9,7 @@ mod Keeping
 mod Going
 mod Firsts
 mod GoingOn
-mod Seating
+pub mod Seating
 mod Workers
 mod Counting
 mod Ending

@@ -3,3 +3,4 @@ pub mod Laws
 pub mod Lined
 pub mod Noted
 pub mod Queued
+pub mod Turns

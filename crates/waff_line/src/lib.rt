@@ -12,6 +12,15 @@
 //!
 //! All times are ticks of the run, from its beginning. The line takes the greatest time that it was told, so
 //! that a clock that stands or goes back changes nothing. A finish lies at least one tick behind its start.
+//!
+//! A line is what the threads of a run share: it notes what was issued, began and ended. Its state
+//! is one that the machine of a run reaches by events, and each of its calls is an event of that
+//! machine or leaves the state as it was. So what it has noted when all messages have ended is a
+//! plan, by the laws below. Who waits for whom is kept in lists of which nothing is promised: a
+//! message begins only where the line has looked at the worker, at the message and at each need of
+//! it. That such a look never fails is promised by no clause.
+//!
+//! Tests: `test_threads/src/records.rt`.
 #![tactic(auto)]
 
 mod dependents;

@@ -17,9 +17,11 @@ use Rattle.waff_list.specs.Orders.{IsServiceOrder, TakesFirst}
 use Rattle.waff_list.specs.Placed.{Placed}
 use Rattle.waff_list.specs.Plannable.{IsKept, IsPlannedTo, Plannable}
 use Rattle.waff_list.specs.Progress.{IsSmall}
-use Rattle.waff_list.specs.Ready.{AreGathered, AreRanked, IsFree, ranked_in}
-use Rattle.waff_list.specs.Waiting.{AreEach}
-use Rattle.waff_list.proofs.Each.{contains_map, each_apart, each_moved}
+use Rattle.waff_waits.specs.Ready.{AreRanked, ranked_in}
+use Rattle.waff_list.specs.Ready.{AreGathered}
+use Rattle.waff_waits.specs.Waits.{IsFree, WhoWaits}
+use Rattle.waff_waits.specs.Times.{AreEach}
+use Rattle.waff_waits.proofs.Each.{contains_map, each_apart, each_moved}
 use Rattle.waff_list.proofs.Keeping.{starting_in_order}
 use Rattle.waff_list.proofs.Placing.{IsFilling, filling_after, followed}
 use Rattle.waff_list.proofs.Starting.{is_ready, starts_filled}
@@ -41,29 +43,29 @@ in_rest at xs i d late inside =
     (i - at, omega arith, get_or-drop at xs (i - at) (get_or xs i d) ∙ ap (λ j. get_or xs j (get_or xs i d)) place ∙ get_or_default xs i (get_or xs i d) d inside)
 
 -- the first so many of these messages have been started
-pub record IsStartedTo (p : Plannable) (old : List ℕ) (placed : Placed) (finishes : List (ℕ × ℕ)) (idle left : List ℕ) (trails : List (List ℕ)) (issues : List (ℕ × ℕ))
+pub record IsStartedTo (p : Plannable) (old : List ℕ) (placed : Placed) (finishes : List (ℕ × ℕ)) (idle : List ℕ) (waits : WhoWaits) (issues : List (ℕ × ℕ))
     (was ranks : List (ℕ × (ℕ × ℕ))) (issued : List ℕ) (needs : List (List ℕ)) (now : ℕ) (messages : List ℕ) (at : ℕ) : Type 0 where
   pub turn : ℕ
-  pub on : IsFilling p old placed finishes idle left (drop at messages ++ ranked_in ranks) trails issues was issued needs now turn
+  pub on : IsFilling p old placed finishes idle waits (drop at messages ++ ranked_in ranks) issues was issued needs now turn
   pub turns : (i d : ℕ) → at ≤ i → i < length messages → turn ≤ get_or messages i d
   pub begun : (m : ℕ) → IsNumber p.work m → start_of placed.starts m ≡ now → Contains messages m
 
 -- at the beginning none has
-pub started_none : (p : Plannable) → IsServiceOrder p.work p.order → FollowsMessages p.work → (placed : Placed) (finishes : List (ℕ × ℕ)) (idle left : List ℕ) (trails : List (List ℕ)) (issues : List (ℕ × ℕ))
+pub started_none : (p : Plannable) → IsServiceOrder p.work p.order → FollowsMessages p.work → (placed : Placed) (finishes : List (ℕ × ℕ)) (idle : List ℕ) (waits : WhoWaits) (issues : List (ℕ × ℕ))
     (was ranks : List (ℕ × (ℕ × ℕ))) (issued : List ℕ) (needs : List (List ℕ)) (now most : ℕ) (taken messages : List ℕ) → now < NEVER
     → IsPlannedTo p placed now 1 now → AreServed p.work (start_of placed.starts) now issued → AreIssues p.work (start_of placed.starts) now issues
-    → IsKept p placed (record { finishes = finishes; idle = idle; left = left; ready = ranked_in was }) trails issued needs now
+    → IsKept p placed (record { finishes = finishes; idle = idle; waits = waits; ready = ranked_in was }) issued needs now
     → AreRanked p.priority (p.order.key (start_of placed.starts)) was
     → AreGathered was most taken ranks → IsPermutation taken messages
-    → IsStartedTo p placed.starts placed finishes idle left trails issues was ranks issued needs now messages 0
-started_none p order followed placed finishes idle left trails issues was ranks issued needs now most taken messages short planned served known h ranked gathered sorted =
+    → IsStartedTo p placed.starts placed finishes idle waits issues was ranks issued needs now messages 0
+started_none p order followed placed finishes idle waits issues was ranks issued needs now most taken messages short planned served known h ranked gathered sorted =
     let waiting = ranked_in ranks in
     let start = start_of placed.starts in
-    let ready : AreEach (IsFree p.work left) (placed.order ++ (messages ++ waiting))
-    = each_moved (IsFree p.work left) (placed.order ++ ranked_in was) h.ready (placed.order ++ (messages ++ waiting))
+    let ready : AreEach (IsFree issued waits) (placed.order ++ (messages ++ waiting))
+    = each_moved (IsFree issued waits) (placed.order ++ ranked_in was) h.ready (placed.order ++ (messages ++ waiting))
     (IsPermutation-append_right placed.order (ranked_in was) (messages ++ waiting)
     (IsPermutation-trans (ranked_in was) (taken ++ waiting) (messages ++ waiting) gathered.parted (IsPermutation-append_left waiting taken messages sorted))) in
-    let on = starting_in_order p order placed (record { finishes = finishes; idle = idle; left = left; ready = ranked_in was }) trails issued needs now 1 short (omega arith) served planned h in
+    let on = starting_in_order p order placed (record { finishes = finishes; idle = idle; waits = waits; ready = ranked_in was }) issued needs now 1 (omega arith) served planned h in
     record {
       turn = 1;
       on = record {
@@ -74,8 +76,8 @@ started_none p order followed placed finishes idle left trails issues was ranks 
         kept = record {
           count = h.count;
           knows = h.knows;
-          noted = h.noted;
-          left = h.left;
+          waits = h.waits;
+          over = h.over;
           finishes = h.finishes;
           manned = h.manned;
           ready = ready;
@@ -89,13 +91,13 @@ started_none p order followed placed finishes idle left trails issues was ranks 
       };
       turns = λ i d late inside.
           let m = get_or messages i d in
-          (ready.only m (Contains-append_right placed.order (messages ++ waiting) m (Contains-append_left messages waiting m (there_at messages i d inside)))).0.from;
+          (served.each.only m (ready.only m (Contains-append_right placed.order (messages ++ waiting) m (Contains-append_left messages waiting m (there_at messages i d inside)))).0).0.from;
       begun = λ m number is. absurd (omega (arith, planned.settled.turns m number is, number.from));
     }
 
 module _ (p : Plannable) (order : IsServiceOrder p.work p.order) (follows : FollowsEarlier p.work) (small : IsSmall p.work) (thinks : (m : ℕ) → IsNumber p.work m → p.work.think m ≤ MAX_THINK)
-    (old : List ℕ) (placed : Placed) (finishes : List (ℕ × ℕ)) (idle left : List ℕ) (trails : List (List ℕ)) (issues : List (ℕ × ℕ)) (was ranks : List (ℕ × (ℕ × ℕ))) (issued : List ℕ)
-    (needs : List (List ℕ)) (now : ℕ) (messages : List ℕ) (at : ℕ) (h : IsStartedTo p old placed finishes idle left trails issues was ranks issued needs now messages at) where
+    (old : List ℕ) (placed : Placed) (finishes : List (ℕ × ℕ)) (idle : List ℕ) (waits : WhoWaits) (issues : List (ℕ × ℕ)) (was ranks : List (ℕ × (ℕ × ℕ))) (issued : List ℕ)
+    (needs : List (List ℕ)) (now : ℕ) (messages : List ℕ) (at : ℕ) (h : IsStartedTo p old placed finishes idle waits issues was ranks issued needs now messages at) where
   module _ (inside : at < length messages) where
     abbrev message : ℕ
     message = get_or messages at 0
@@ -104,12 +106,12 @@ module _ (p : Plannable) (order : IsServiceOrder p.work p.order) (follows : Foll
     rest = drop (suc at) messages ++ ranked_in ranks
 
     -- the next message is the first of those that are left
-    split : IsFilling p old placed finishes idle left (message ∷ rest) trails issues was issued needs now h.turn
-    split = subst (λ xs. IsFilling p old placed finishes idle left (xs ++ ranked_in ranks) trails issues was issued needs now h.turn) (drop-cons messages at 0 inside) h.on
+    split : IsFilling p old placed finishes idle waits (message ∷ rest) issues was issued needs now h.turn
+    split = subst (λ xs. IsFilling p old placed finishes idle waits (xs ++ ranked_in ranks) issues was issued needs now h.turn) (drop-cons messages at 0 inside) h.on
 
     -- it is one of the trace
     pub started_number : IsNumber p.work message
-    started_number = (split.kept.ready.only message (Contains-append_right placed.order (message ∷ rest) message (0, omega arith, refl))).0
+    started_number = (split.served.each.only message (split.kept.ready.only message (Contains-append_right placed.order (message ∷ rest) message (0, omega arith, refl))).0).0
 
     -- one more has
     module _ (short : now + 2 ^ 33 < NEVER) (up : IsNonDecreasingBy (λ m. m) messages) (w : ℕ) (free : List ℕ) (popped : IsPermutation idle (w ∷ free)) (smallest : (v : ℕ) → Contains free v → w ≤ v)
@@ -118,19 +120,19 @@ module _ (p : Plannable) (order : IsServiceOrder p.work p.order) (follows : Foll
       abbrev pub more : Placed
       more = record { starts = set placed.starts (message - 1) now; seats = set placed.seats (message - 1) w; order = placed.order ++ message ∷ [] }
 
-      on_after : IsFilling p old more after free left rest trails new was issued needs now (message + 1)
-      on_after = filling_after p order follows small thinks old placed finishes idle free rest left trails issues was issued needs now h.turn message w short (h.turns at 0 (omega arith) inside) popped smallest split after pushed next new is told
+      on_after : IsFilling p old more after free waits rest new was issued needs now (message + 1)
+      on_after = filling_after p order follows small thinks old placed finishes idle free rest waits issues was issued needs now h.turn message w short (h.turns at 0 (omega arith) inside) popped smallest split after pushed next new is told
 
-      pub started_more : IsStartedTo p old more after free left trails new was ranks issued needs now messages (suc at)
+      pub started_more : IsStartedTo p old more after free waits new was ranks issued needs now messages (suc at)
       started_more =
-          let ready : AreEach (IsFree p.work left) ((placed.order ++ message ∷ []) ++ rest) = on_after.kept.ready in
+          let ready : AreEach (IsFree issued waits) ((placed.order ++ message ∷ []) ++ rest) = on_after.kept.ready in
           record {
             turn = message + 1;
             on = on_after;
             turns = λ i d late within.
                 let m = get_or messages i d in
                 let no_more = up at i d (omega arith) within in
-                let other : message ≢ m = λ again. each_apart (IsFree p.work left) (placed.order ++ message ∷ []) rest ready message
+                let other : message ≢ m = λ again. each_apart (IsFree issued waits) (placed.order ++ message ∷ []) rest ready message
                 (Contains-push placed.order message)
                 (Contains-append_left (drop (suc at) messages) (ranked_in ranks) message (subst (λ x. Contains (drop (suc at) messages) x) (sym again) (in_rest (suc at) messages i d late within))) in
                 omega (arith, no_more, get_or_default messages at d 0 inside, other);
@@ -145,8 +147,8 @@ module _ (p : Plannable) (order : IsServiceOrder p.work p.order) (follows : Foll
 
   -- all have
   module _ (end : length messages ≤ at) where
-    pub started_all : IsFilling p old placed finishes idle left (ranked_in ranks) trails issues was issued needs now h.turn
-    started_all = subst (λ xs. IsFilling p old placed finishes idle left (xs ++ ranked_in ranks) trails issues was issued needs now h.turn) (drop_all at messages end) h.on
+    pub started_all : IsFilling p old placed finishes idle waits (ranked_in ranks) issues was issued needs now h.turn
+    started_all = subst (λ xs. IsFilling p old placed finishes idle waits (xs ++ ranked_in ranks) issues was issued needs now h.turn) (drop_all at messages end) h.on
 
     module _ (short : now < NEVER) (most : ℕ) (taken : List ℕ) (gathered : AreGathered was most taken ranks) (sorted : IsPermutation taken messages) where
       -- no message that is ready and waits is taken before one that starts at now
@@ -174,6 +176,6 @@ module _ (p : Plannable) (order : IsServiceOrder p.work p.order) (follows : Foll
       pub started_filled : (idle ≡ []) ⊎ (ranked_in ranks ≡ []) → IsPlannedTo p placed now (p.work.count + 1) (now + 1)
       started_filled over =
           let all = started_all in
-          let on = starting_in_order p order placed (record { finishes = finishes; idle = idle; left = left; ready = ranked_in ranks }) trails issued needs now h.turn short all.to all.served all.planned all.kept in
+          let on = starting_in_order p order placed (record { finishes = finishes; idle = idle; waits = waits; ready = ranked_in ranks }) issued needs now h.turn all.to all.served all.planned all.kept in
           starts_filled p.work p.workers (followed p order follows small thinks) (p.order.before (start_of placed.starts)) (TakesFirst p.priority (p.order.key (start_of placed.starts))) (order.numbers (start_of placed.starts))
           placed finishes now h.turn idle (ranked_in ranks) on over not_before

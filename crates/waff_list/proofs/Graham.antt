@@ -14,8 +14,8 @@ use Rattle.waff_plan.proofs.Longest.{finish_of-le-length_of, length_of-le}
 use Rattle.waff_plan.proofs.Ticks.{ticks_below, run_below, run_below-suc}
 use Rattle.waff_list.specs.ListRule.{IsReady}
 use Rattle.waff_list.specs.Bound.{IsBusyPlan, BusyPlansAreWithinBound}
-use Rattle.waff_list.proofs.CountLemmas.{count_some as listed_some}
-use Rattle.waff_list.proofs.Each.{contains_first, contains_more}
+use Rattle.waff_waits.proofs.TimesLemmas.{count_some as listed_some}
+use Rattle.waff_waits.proofs.Each.{contains_first, contains_more}
 use Rattle.waff_list.proofs.Pigeonhole.{count_some}
 use Rattle.waff_list.proofs.Running.{runs_from}
 

@@ -1,7 +1,7 @@
 -- At the beginning no message is placed and none is issued; those that follow none are issued at their releases.
-use Rattle.std.proofs.Common.{◌≡◌, ℕ, ◌-◌, ◌<◌, ◌≤◌, ◌⊎◌, inl, inr, List, [], ◌∷◌, cond, ◌==◌, length, map, replicate, count_by, Contains, Option, Some, None, option_map, arith, refl, sym, ap, ◌∙◌, subst}
-use Rattle.std.proofs.lemmas.Bool.{cases_lt}
-use Rattle.std.proofs.lemmas.List.{append-nil, get_or-map, get_or-replicate, get_or_past, length-replicate}
+use Rattle.std.proofs.Common.{◌≡◌, ℕ, ◌-◌, ◌<◌, ◌≤◌, ◌⊎◌, inl, inr, List, [], ◌∷◌, false, cond, ◌==◌, length, map, replicate, count_by, Contains, Option, Some, None, option_map, arith, refl, sym, ap, ◌∙◌, subst}
+use Rattle.std.proofs.lemmas.Bool.{cases_lt, false≢true}
+use Rattle.std.proofs.lemmas.List.{append-nil, get_or-replicate, get_or_past, length-replicate}
 use Rattle.std.proofs.lemmas.List.Elements.{All-contains_itself, All-nil, All-weaker}
 use Rattle.std.proofs.lemmas.List.Sums.{sum_by-cons}
 use Rattle.waff_model.specs.Numbers.{IsAmongFirst}
@@ -9,30 +9,31 @@ use Rattle.waff_plan.specs.Pending.{AreFirst}
 use Rattle.waff_plan.specs.Timing.{start_of, work_of}
 use Rattle.waff_plan.specs.Work.{Work, IsNumber, finish_of, issue_after, issue_of}
 use Rattle.waff_order.specs.Joined.{Joined}
-use Rattle.waff_order.specs.Needs.{IsNeed, needs_of}
+use Rattle.waff_order.specs.Needs.{needs_of}
 use Rattle.waff_list.specs.Issuing.{AreJoining, AreNeedsByNumber}
 use Rattle.waff_list.specs.Orders.{TakesFirst}
-use Rattle.waff_list.specs.Plannable.{AreLeftBut, Plannable}
-use Rattle.waff_list.specs.Planning.{AreIssuing, Fits, IsNoneIssued, IsPlanned, IsWaiting, plannable_of}
+use Rattle.waff_list.specs.Plannable.{HaveFinishedBy, Plannable}
+use Rattle.waff_waits.specs.Waits.{HasFinished}
+use Rattle.waff_waits.proofs.Waiting.{waits_none}
+use Rattle.waff_list.specs.declared.service.Service.{Service}
+use Rattle.waff_list.specs.declared.service.Service.TheVariants.{ByIssue, ByNumber}
+use Rattle.waff_list.specs.Planning.{AreIssuing, AreKnown, Fits, IsFresh, IsNoneIssued, IsPlanned, IsWaiting, plannable_of}
 use Rattle.waff_list.specs.Progress.{IsSmall}
-use Rattle.waff_list.specs.Ready.{AreRanked}
+use Rattle.waff_waits.specs.Ready.{AreRanked}
 use Rattle.waff_list.specs.Telling.{basis_of, order_by, priority_in}
-use Rattle.waff_list.specs.Trails.{trails}
-use Rattle.waff_list.specs.Waiting.{AreDependents, AreEach, dependents_of, left_of, times}
-use Rattle.waff_list.specs.declared.dependents.Dependents.{Dependents}
+use Rattle.waff_waits.specs.Times.{AreEach, times}
 use Rattle.waff_list.specs.declared.progress.Progress.{Progress}
 use Rattle.waff_list.specs.declared.task.Task.{Task}
 use Rattle.waff_list.specs.declared.waiting.Waiting.{Waiting}
 use Rattle.waff_plan.specs.declared.due.TheConstants.{NEVER}
 use Rattle.waff_list.proofs.ClientTasks.{small_of}
-use Rattle.waff_list.proofs.CountLemmas.{left_none, times_some}
-use Rattle.waff_list.proofs.Each.{contains_map, contains_mapped, each_same, none_there}
+use Rattle.waff_waits.proofs.TimesLemmas.{times_some}
+use Rattle.waff_waits.proofs.Each.{contains_map, contains_mapped, each_same, none_there}
 use Rattle.waff_list.proofs.FinishLemmas.{finishes_none}
 use Rattle.waff_list.proofs.IssueLemmas.{followed_by}
 use Rattle.waff_list.proofs.IssuePlans.{follows_messages}
 use Rattle.waff_list.proofs.Making.{progress_none}
-use Rattle.waff_list.proofs.Orders.{known_count, known_numbers, knows_of, service_order}
-use Rattle.waff_list.proofs.TrailLemmas.{no_trail, trails_none}
+use Rattle.waff_list.proofs.Orders.{known_count, knows_of, service_order}
 use Rattle.waff_list.proofs.Uniqueness.{FollowsMessages}
 
 times_map : {X : Type 0} (f : X → ℕ) (m : ℕ) (xs : List X) → times m (map f xs) ≡ count_by (λ x. f x == m) xs
@@ -99,17 +100,10 @@ module _ (count : ℕ) where
     of_others = λ m inside other. needs_nothing m;
   }
 
-  pub dependents_nothing : (d : Dependents) → d.firsts.items ≡ replicate count 0 → d.links.items ≡ [] → AreDependents nothing (trails d) count
-  dependents_nothing d firsts links =
-      let of : (i : ℕ) → dependents_of (trails d) i ≡ [] = λ i. elim (cases_lt (i - 1) count) [
-        | inl inside ↦ no_trail d count firsts links (i - 1) inside
-        | inr past ↦ get_or_past (trails d) (i - 1) none (omega (arith, trails_none d count firsts links, past))
-      ] in
-      record {
-        count = trails_none d count firsts links ∙ sym long;
-        each = λ i m from m_from to. ap (λ xs. times m xs) (of i) ∙ sym (ap (λ xs. times i xs) (needs_nothing m));
-        only = λ i m there. absurd (none_there m (subst (λ xs. Contains xs m) (of i) there));
-      }
+-- so no need is known yet, but where all are
+pub none_known : (service : Service) (work : Work) → Fits service work → IsFresh service → (needs : List (List ℕ)) × AreKnown service work.count [] needs
+none_known (ByNumber given) work fits fresh = (given.now, refl)
+none_known (ByIssue issues) work fits fresh = (nothing work.count, record { messages = fresh.0; joined = fresh.1; told = told_nothing work.count issues.joining })
 
 -- what is kept where none is issued
 module _ (task : Task) (p : Progress) (w : Waiting) (none : IsNoneIssued w (work_of task.timings.items)) (fits : Fits w.service (work_of task.timings.items))
@@ -124,44 +118,38 @@ module _ (task : Task) (p : Progress) (w : Waiting) (none : IsNoneIssued w (work
   never : (m : ℕ) → IsNumber its m → begin m ≡ NEVER
   never m number = get_or-replicate its.count (m - 1) NEVER 0 (omega (arith, number.from, number.to))
 
-  need_number : (i m : ℕ) → IsNeed none.needs i m → IsNumber its i
-  need_number = known_numbers w.service its [] none.needs _ fits none.known (λ x there. absurd (none_there x there))
-
   counts : length none.needs ≡ its.count
-  counts = known_count w.service its [] none.needs _ fits none.known
+  counts = known_count w.service its [] none.needs fits none.known
 
-  left_at_first : AreLeftBut its [] none.needs begin [] w.left.items
-  left_at_first = record {
-    count = none.count;
-    here = λ m number there. absurd (none_there m there);
-    later = λ m number other.
-        let long : left_of (map length none.needs) m ≡ length (needs_of none.needs m) = get_or-map length none.needs (m - 1) [] 0 (omega (arith, number.from, number.to, counts)) in
-        let are = left_none none.needs its need_number counts begin never in
-        omega (arith, none.left m number, long, are.counts m number.from (omega (arith, number.to, counts)));
-  }
+  none_finished : (i : ℕ) → HasFinished (record { awaited = replicate its.count []; finished = replicate its.count false }) i → ⊥
+  none_finished i done = elim (cases_lt (i - 1) its.count) [
+    | inl inside ↦ false≢true (sym (get_or-replicate its.count (i - 1) false false inside) ∙ done)
+    | inr past ↦ false≢true (sym (get_or_past (replicate its.count false) (i - 1) false (omega (arith, past, length-replicate its.count false))) ∙ done)
+  ]
+
+  over_at_first : HaveFinishedBy its begin 0 w.waits
+  over_at_first = rw none.waits (record {
+    only = λ i number done. absurd (none_finished i done);
+    each = λ i number early. absurd (omega (arith, early, never i number));
+  })
 
   pub waiting_at_first : IsWaiting task p w [] [] 0
   waiting_at_first = record {
     needs = none.needs;
     kept = record {
       count = counts;
-      knows = knows_of w.service its [] none.needs _ none.known;
-      noted = record {
-        count = none.dependents.count;
-        each = λ i m from number late. none.dependents.each i m from number.from number.to;
-        only = λ i m there. let within = none.dependents.only i m there in record { from = within.0; to = within.1 };
-      };
-      left = rw (starts, finishes) left_at_first;
+      knows = knows_of w.service its [] none.needs none.known;
+      waits = rw none.waits (waits_none none.needs its.count counts);
+      over = rw starts over_at_first;
       finishes = rw (starts, finishes) (finishes_none its begin never);
       manned = rw finishes (subst (λ xs. AreEach (IsAmongFirst task.workers) xs) (sym (append-nil p.idle)) idle);
       ready = rw (order, none.ready) (record {
         only = λ m there. absurd (none_there m there);
-        each = λ m free. absurd (omega (arith, none.left m free.0, free.1));
+        each = λ m free. absurd (none_there m free.0);
       });
     };
     known = none.known;
     fits = fits;
-    linked = none.linked;
     ranked = subst (λ (rs : List (ℕ × (ℕ × ℕ))). AreRanked (priority_in task) ((order_by (basis_of w.service) its).key (start_of p.starts.items)) rs) (sym none.ready) (All-nil _);
   }
 
@@ -175,6 +163,6 @@ module _ (task : Task) (p : Progress) (w : Waiting) (none : IsNoneIssued w (work
   pub begun_at_first : p.seats.items ≡ replicate (length task.timings.items) 0 → IsPlanned task (basis_of w.service) p 0 1 0
   begun_at_first seats =
       let plan : Plannable = plannable_of task (basis_of w.service) in
-      let service = service_order w.service its [] none.needs _ fits none.known (small_of task) in
+      let service = service_order w.service its [] none.needs fits none.known (small_of task) in
       rw (starts, seats, order)
       (progress_none (plan.order.before begin) (TakesFirst plan.priority (plan.order.key begin)) its plan.workers (service.numbers begin) (follows_messages its task.earlier) (omega (arith, task.few)))

@@ -11,7 +11,7 @@ use Rattle.waff_list.specs.Progress.{IsSmall}
 use Rattle.waff_list.specs.Issuing.{AreIssues, IsLastEvent, IsNextEvent}
 use Rattle.waff_list.specs.Waiting.{Runs, AreFinishes}
 use Rattle.waff_plan.specs.declared.due.TheConstants.{NEVER}
-use Rattle.waff_list.proofs.Each.{contains_map, contains_mapped, each_there}
+use Rattle.waff_waits.proofs.Each.{contains_map, contains_mapped, each_there}
 use Rattle.waff_list.proofs.IssueLemmas.{followed_by, issue_same}
 use Rattle.waff_list.proofs.Uniqueness.{FollowsMessages, counts_le, counts_lt}
 

@@ -8,10 +8,10 @@ use Rattle.waff_plan.specs.Issues.{IsIssuedBefore}
 use Rattle.waff_plan.specs.Work.{Work, IsNumber, issue_of}
 use Rattle.waff_list.specs.Issuing.{AreJoining}
 use Rattle.waff_list.specs.Issuing.{AreIssues, AreServed}
-use Rattle.waff_list.specs.Waiting.{AreEach}
+use Rattle.waff_waits.specs.Times.{AreEach}
 use Rattle.waff_plan.specs.declared.due.TheConstants.{NEVER}
-use Rattle.waff_list.proofs.CountLemmas.{times_none}
-use Rattle.waff_list.proofs.Each.{contains_first, contains_mapped, contains_more, each_apart, one_of, times_append}
+use Rattle.waff_waits.proofs.TimesLemmas.{times_none}
+use Rattle.waff_waits.proofs.Each.{contains_first, contains_mapped, contains_more, each_apart, one_of, times_append}
 
 module _ (work : Work) (start : ℕ → ℕ) (served : List ℕ) (issues : List (ℕ × ℕ)) where
   abbrev rest : List ℕ

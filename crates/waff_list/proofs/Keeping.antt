@@ -1,48 +1,36 @@
 -- A list plan in any order of service while it is made: which messages are ready, and when it is made.
-use Rattle.std.proofs.Common.{◌≡◌, ℕ, zero, suc, ◌+◌, ◌-◌, ◌<◌, ◌≤◌, ◌⊎◌, inl, inr, List, ◌++◌, length, map, get_or, Contains, arith, sym, ◌∙◌, ap}
+use Rattle.std.proofs.Common.{◌≡◌, ℕ, zero, suc, ◌+◌, ◌-◌, ◌<◌, ◌≤◌, ◌⊎◌, inl, inr, List, ◌++◌, length, get_or, arith, ◌∙◌, ap}
 use Rattle.std.proofs.lemmas.Bool.{cases_lt}
-use Rattle.std.proofs.lemmas.List.{get_or_default, length-map}
+use Rattle.std.proofs.lemmas.List.{get_or_default}
 use Rattle.std.proofs.lemmas.List.Elements.{All-contains}
-use Rattle.std.proofs.lemmas.List.FromFn.{get_or-map-range_with_len, length-range_with_len}
 use Rattle.waff_model.specs.declared.limits.TheConstants.{MAX_RELEASE, MAX_THINK, MAX_TICK}
 use Rattle.waff_assign.specs.Order.{Relation}
 use Rattle.waff_order.specs.Needs.{IsNeed}
 use Rattle.waff_plan.specs.Obeys.{FollowsEarlier}
 use Rattle.waff_plan.specs.Timing.{start_of}
-use Rattle.waff_plan.specs.Work.{Work, IsNumber, finish_of, issue_of, numbers}
+use Rattle.waff_plan.specs.Work.{IsNumber, finish_of, issue_of}
 use Rattle.waff_list.specs.Issuing.{AreServed, IsLastEvent}
 use Rattle.waff_list.specs.ListRule.{IsReady}
 use Rattle.waff_list.specs.Orders.{AreNeedsIn, IsServiceOrder, TakesFirst}
 use Rattle.waff_list.specs.Placed.{Pending, Placed}
 use Rattle.waff_list.specs.Plannable.{IsKept, IsMade, IsPlannedTo, Plannable}
 use Rattle.waff_list.specs.Progress.{IsSettled, IsSmall}
-use Rattle.waff_list.specs.Ready.{IsFree}
+use Rattle.waff_waits.specs.Waits.{IsFree}
 use Rattle.waff_list.specs.Seating.{worker_of}
-use Rattle.waff_list.specs.Waiting.{AreFinishes, AreLeft, left_of, running_needs, unplaced_needs}
+use Rattle.waff_list.specs.Waiting.{AreFinishes}
 use Rattle.waff_plan.specs.declared.due.TheConstants.{NEVER}
-use Rattle.waff_list.proofs.CountLemmas.{left_finished, left_over}
-use Rattle.waff_list.proofs.Each.{each_same, each_there}
+use Rattle.waff_waits.proofs.Waiting.{free_over, over_free}
+use Rattle.waff_waits.proofs.Each.{each_same, each_there}
 use Rattle.waff_list.proofs.IssueLemmas.{issue_le}
 use Rattle.waff_list.proofs.IssuePlans.{follows_messages}
 use Rattle.waff_list.proofs.Making.{settled_all, settled_plan}
-use Rattle.waff_list.proofs.Orders.{contains_or, needs_tell}
+use Rattle.waff_list.proofs.Orders.{needs_tell}
 use Rattle.waff_list.proofs.Starting.{IsStartingOf}
 
--- what a message waits for but its issue
-abbrev pub sums : Work → List (List ℕ) → (ℕ → ℕ) → List (ℕ × ℕ) → List ℕ
-sums work needs start finishes = map (λ m. unplaced_needs needs start m + running_needs needs finishes m) (numbers work)
-
-pub sums_are : (work : Work) (needs : List (List ℕ)) (start : ℕ → ℕ) (finishes : List (ℕ × ℕ)) → length needs ≡ work.count → AreLeft needs start finishes (sums work needs start finishes)
-sums_are work needs start finishes count = record {
-  count = length-map (numbers work) (λ m. unplaced_needs needs start m + running_needs needs finishes m) ∙ length-range_with_len 1 work.count ∙ sym count;
-  counts = λ m from to. get_or-map-range_with_len (λ m. unplaced_needs needs start m + running_needs needs finishes m) 1 work.count (m - 1) m 0
-      (omega (arith, from, to, count)) (omega (arith, from));
-}
-
 module _ (p : Plannable) (order : IsServiceOrder p.work p.order) where
-  module _ (placed : Placed) (pending : Pending) (trails : List (List ℕ)) (issued : List ℕ) (needs : List (List ℕ)) (now turn end : ℕ)
-      (short : now < NEVER) (served : AreServed p.work (start_of placed.starts) now issued) (progress : IsPlannedTo p placed now turn end)
-      (h : IsKept p placed pending trails issued needs now) where
+  module _ (placed : Placed) (pending : Pending) (issued : List ℕ) (needs : List (List ℕ)) (now turn end : ℕ)
+      (served : AreServed p.work (start_of placed.starts) now issued) (progress : IsPlannedTo p placed now turn end)
+      (h : IsKept p placed pending issued needs now) where
     abbrev start : ℕ → ℕ
     start = start_of placed.starts
 
@@ -52,56 +40,42 @@ module _ (p : Plannable) (order : IsServiceOrder p.work p.order) where
     are : AreNeedsIn before issued needs
     are = order.serves start now issued needs served h.knows
 
-    pub need_number : (i j : ℕ) → IsNeed needs i j → IsNumber p.work i
+    need_number : (i j : ℕ) → IsNeed needs i j → IsNumber p.work i
     need_number i j need = (order.numbers start i j (are.sound i j need)).0
 
-    abbrev its_left : List ℕ
-    its_left = sums p.work needs start pending.finishes
-
-    are_left : AreLeft needs start pending.finishes its_left
-    are_left = sums_are p.work needs start pending.finishes h.count
-
-    -- a message that waits for nothing is issued
-    issued_if_none : (m : ℕ) → IsFree p.work pending.left m → Contains issued m
-    issued_if_none m (number, over) = elim (contains_or m issued) [
-      | inl there ↦ there
-      | inr other ↦ let more = h.left.later m number other in absurd (omega (arith, more, over))
-    ]
-
-    ready_if_up : (m : ℕ) → IsFree p.work pending.left m → IsReady before p.work start now m
-    ready_if_up m (number, over) =
-        let there = issued_if_none m (number, over) in
+    ready_if_up : (m : ℕ) → IsFree issued pending.waits m → IsReady before p.work start now m
+    ready_if_up m (there, none) =
         let is = served.each.only m there in
-        let none : left_of its_left m ≡ 0 = omega (arith, are_left.counts m number.from (omega (arith, number.to, h.count)), h.left.here m number there, over) in
+        let number = is.0 in
         record {
           number = number;
           issued = is.1;
           free = (needs_tell before p.work issued needs are start now progress.settled.ordered m there).0
-              (left_finished needs p.work need_number h.count start now pending.finishes its_left short h.finishes are_left m number progress.settled.placed none);
+              (λ i need. h.over.only i (need_number i m need)
+              (free_over issued needs pending.waits h.waits m number.from there (λ k its. (need_number k m its).from) none i need));
         }
 
-    up_if_ready : (m : ℕ) → IsReady before p.work start now m → IsFree p.work pending.left m
+    up_if_ready : (m : ℕ) → IsReady before p.work start now m → IsFree issued pending.waits m
     up_if_ready m ready =
         let number = ready.number in
         let there = each_there (λ x. IsNumber p.work x × (issue_of p.work start x ≤ now)) issued served.each m (number, ready.issued) in
-        let none = left_over needs p.work need_number h.count start now pending.finishes its_left short h.finishes are_left m number
-        ((needs_tell before p.work issued needs are start now progress.settled.ordered m there).1 ready.free) in
-        (number, omega (arith, are_left.counts m number.from (omega (arith, number.to, h.count)), h.left.here m number there, none))
+        let over = (needs_tell before p.work issued needs are start now progress.settled.ordered m there).1 ready.free in
+        (there, over_free issued needs pending.waits h.waits m number.from there (λ i need. h.over.each i (need_number i m need) (over i need)))
 
   -- those that are issued and wait for none are ready
-  pub starting_in_order : (placed : Placed) (pending : Pending) (trails : List (List ℕ)) (issued : List ℕ) (needs : List (List ℕ)) (now turn : ℕ)
-      → now < NEVER → turn ≤ p.work.count + 1 → AreServed p.work (start_of placed.starts) now issued → IsPlannedTo p placed now turn now
-      → IsKept p placed pending trails issued needs now
+  pub starting_in_order : (placed : Placed) (pending : Pending) (issued : List ℕ) (needs : List (List ℕ)) (now turn : ℕ)
+      → turn ≤ p.work.count + 1 → AreServed p.work (start_of placed.starts) now issued → IsPlannedTo p placed now turn now
+      → IsKept p placed pending issued needs now
       → IsStartingOf (p.order.before (start_of placed.starts)) (TakesFirst p.priority (p.order.key (start_of placed.starts))) p.work p.workers placed pending.finishes pending.idle pending.ready now turn
-  starting_in_order placed pending trails issued needs now turn short to served progress h = record {
+  starting_in_order placed pending issued needs now turn to served progress h = record {
     to = to;
     progress = progress;
     finishes = h.finishes;
     manned = h.manned;
-    ready = each_same (IsFree p.work pending.left) (placed.order ++ pending.ready) h.ready
+    ready = each_same (IsFree issued pending.waits) (placed.order ++ pending.ready) h.ready
         (IsReady (p.order.before (start_of placed.starts)) p.work (start_of placed.starts) now)
-        (ready_if_up placed pending trails issued needs now turn now short served progress h)
-        (up_if_ready placed pending trails issued needs now turn now short served progress h);
+        (ready_if_up placed pending issued needs now turn now served progress h)
+        (up_if_ready placed pending issued needs now turn now served progress h);
   }
 
   -- where no message finishes after now, and the issue of none that is not issued is known, all are issued and placed

@@ -1,8 +1,7 @@
 -- A message joins those that have been issued: its needs by number are known from now on.
-use Rattle.std.proofs.Common.{◌≡◌, ℕ, ◌+◌, ◌-◌, ◌≤◌, inl, inr, List, [], ◌∷◌, ◌++◌, length, map, set, sum_by, All, Contains, arith, sym, ◌∙◌, ap, subst, get_or-set_same}
+use Rattle.std.proofs.Common.{◌≡◌, ℕ, ◌+◌, ◌-◌, ◌≤◌, inl, inr, List, [], ◌∷◌, ◌++◌, length, map, set, All, Contains, arith, sym, ◌∙◌, ap, subst, get_or-set_same}
 use Rattle.std.proofs.lemmas.List.{length-map, length_push, map_push}
 use Rattle.std.proofs.lemmas.List.Elements.{All-contains_itself, All-map, All-weaker, Contains-get_or}
-use Rattle.std.proofs.lemmas.List.Sums.{sum_by-append}
 use Rattle.waff_assign.specs.Order.{affinity_of}
 use Rattle.waff_model.specs.Numbers.{IsAmongFirst}
 use Rattle.waff_model.specs.Tree.{Node}
@@ -12,10 +11,10 @@ use Rattle.waff_plan.specs.Work.{Work}
 use Rattle.waff_list.specs.Issuing.{AreNeedsByNumber, served_at}
 use Rattle.waff_list.specs.Planning.{AreJoined, IsNew}
 use Rattle.waff_list.specs.declared.issued.Issued.{Issued}
-use Rattle.waff_list.proofs.Each.{one_of}
+use Rattle.waff_waits.proofs.Each.{one_of}
 use Rattle.waff_list.proofs.ServedLemmas.{list_of_last, told_more}
 
-module _ (work : Work) (x y : Issued) (messages : List ℕ) (needs : List (List ℕ)) (m links : ℕ) (h : AreJoined x work.count messages needs links) (is : IsNew work messages m)
+module _ (work : Work) (x y : Issued) (messages : List ℕ) (needs : List (List ℕ)) (m : ℕ) (h : AreJoined x work.count messages needs) (is : IsNew work messages m)
     (case : y.case ≡ x.case) (spans : y.spans ≡ x.spans) (moved : y.messages.items ≡ x.messages.items ++ m ∷ [])
     (list : List ℕ) (listed : y.joining.needs ≡ x.joining.needs ++ list ∷ [])
     (joins : (tree : List Node) (assigned : List ℕ) → HaveJoined tree x.spans.now assigned x.joining → HaveJoined tree x.spans.now (assigned ++ affinity_of x.case.assigned.now m ∷ []) y.joining)
@@ -67,26 +66,13 @@ module _ (work : Work) (x y : Issued) (messages : List ℕ) (needs : List (List 
         | inr same ↦ subst (IsAmongFirst work.count) (sym same) m_number
       ]) list places))
 
-  long : length xs ≡ length list
-  long = ap length names ∙ length-map list (served_at all)
-
-  pub more_needs : sum_by length y.joining.needs ≡ sum_by length x.joining.needs + length xs
-  more_needs =
-      let sum = ap (λ ys. sum_by length ys) listed in
-      omega (arith, sum, sum_by-append length x.joining.needs (list ∷ []), long)
-
-  -- it had none before
-  pub none : needs_of needs m ≡ []
-  none = h.told.of_others m m_number is.new
-
   pub here : needs_of (set needs (m - 1) xs) m ≡ xs
   here = get_or-set_same needs (m - 1) xs [] (omega (arith, m_number.from, m_number.to, h.told.count))
 
-  pub joined_after : (after : ℕ) → after ≤ links + length xs → AreJoined y work.count all (set needs (m - 1) xs) after
-  joined_after after within = record {
+  pub joined_after : AreJoined y work.count all (set needs (m - 1) xs)
+  joined_after = record {
     messages = all_are;
     joined = have;
     told = subst (λ ys. AreNeedsByNumber work.count all y.joining (set needs (m - 1) ys)) (sym names)
         (told_more work.count messages m x.joining y.joining list needs m_number is.new from_one count listed h.joined.lists h.told);
-    few = omega (arith, within, more_needs, h.few);
   }

@@ -1,17 +1,12 @@
 mod IssueLemmas
 pub mod Graham
 pub mod Pigeonhole
-mod Each
 mod Running
 mod Making
 mod Starting
 pub mod TraceWork
 mod PathPlans
-mod CountLemmas
 mod FinishLemmas
-mod OrderingLemmas
-mod TrailLemmas
-mod DependentLemmas
 pub mod Uniqueness
 pub mod SeatsUniqueness
 pub mod TailLemmas
@@ -23,9 +18,7 @@ mod IssueEvents
 mod ClientTasks
 mod IssueBeginning
 mod IssueJoining
-mod UnfinishedLemmas
 mod ServedLemmas
-mod Telling
 mod TailMaking
 mod TailOrders
 mod Services
@@ -36,3 +29,4 @@ mod Filling
 mod Issuing
 mod Learning
 mod Steps
+mod LettingGo

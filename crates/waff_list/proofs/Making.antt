@@ -14,9 +14,10 @@ use Rattle.waff_list.specs.Placed.{Placed}
 use Rattle.waff_list.specs.Seats.{ComesBefore, HoldsWorker, IsSeated}
 use Rattle.waff_list.specs.Seating.{worker_of}
 use Rattle.waff_list.specs.Progress.{IsSettled, IsOrderSoFar, IsProgressOf}
-use Rattle.waff_list.specs.Waiting.{AreEach, AreManned, AreFinishes, Runs}
+use Rattle.waff_waits.specs.Times.{AreEach}
+use Rattle.waff_list.specs.Waiting.{AreManned, AreFinishes, Runs}
 use Rattle.waff_plan.specs.declared.due.TheConstants.{NEVER}
-use Rattle.waff_list.proofs.Each.{each_there, each_moved, each_same, each_apart, contains_rest_of, contains_first, contains_map, contains_mapped, manned_more}
+use Rattle.waff_waits.proofs.Each.{each_there, each_moved, each_same, each_apart, contains_rest_of, contains_first, contains_map, contains_mapped, manned_more}
 use Rattle.waff_list.proofs.TailLemmas.{IsAhead}
 use Rattle.waff_list.proofs.Uniqueness.{AreAlike, FollowsMessages}
 use Rattle.waff_list.proofs.IssueLemmas.{issue_same, followed_by}

@@ -3,8 +3,8 @@ use Rattle.std.proofs.Common.{◌≡◌, ℕ, zero, suc, ◌+◌, ◌-◌, ◌<�
 use Rattle.std.proofs.lemmas.Bool.{cases_lt}
 use Rattle.waff_model.specs.Tree.{Node}
 use Rattle.waff_model.specs.declared.preorder.Span.{Span}
-use Rattle.waff_assign.specs.Order.{Path, PathBy, Relation, affinity_of}
-use Rattle.std.proofs.lemmas.List.{get_or_default, length-map}
+use Rattle.waff_assign.specs.Order.{Path, PathBy, Relation}
+use Rattle.std.proofs.lemmas.List.{get_or_default}
 use Rattle.std.proofs.lemmas.List.Elements.{Contains-get_or}
 use Rattle.waff_order.specs.Needs.{AreLists, IsNeed, needs_of}
 use Rattle.waff_order.proofs.NeedLemmas.{need_within, path_one}
@@ -17,11 +17,11 @@ use Rattle.waff_list.specs.Orders.{AgreeBy, AreNeedsIn, IsServiceOrder, Order, T
 use Rattle.waff_list.specs.Planning.{AreKnown, Fits}
 use Rattle.waff_list.specs.Progress.{IsSmall}
 use Rattle.waff_list.specs.Telling.{basis_of, order_by}
-use Rattle.waff_list.specs.Waiting.{times}
+use Rattle.waff_waits.specs.Times.{times}
 use Rattle.waff_list.specs.declared.service.Service.{Service}
 use Rattle.waff_list.specs.declared.service.Service.TheVariants.{ByIssue, ByNumber}
-use Rattle.waff_list.proofs.CountLemmas.{rising_length, times_some}
-use Rattle.waff_list.proofs.Each.{contains_mapped, times_listed}
+use Rattle.waff_waits.proofs.TimesLemmas.{times_some}
+use Rattle.waff_waits.proofs.Each.{contains_mapped, times_listed}
 use Rattle.waff_list.proofs.IssuePlans.{served_to}
 use Rattle.waff_list.proofs.ServiceLemmas.{need_is_served, path_of_pair}
 use Rattle.waff_list.proofs.Uniqueness.{AreAlike}
@@ -114,36 +114,37 @@ contains_or m xs = elim (cases_lt 0 (times m xs)) [
   | inr none ↦ inr (λ there. omega (arith, none, times_some m xs there))
 ]
 
--- the needs of a message are fewer than its number
-list_few : (lists : List (List ℕ)) → AreLists lists → (m : ℕ) → 1 ≤ m → m ≤ length lists → length (needs_of lists m) ≤ m
-list_few lists are m from to =
-    rising_length (needs_of lists m) m (are.rising (m - 1) [] (omega (arith, from, to))) (λ x there. are.earlier x m (record { from = from; listed = there }))
+-- each need of a message is one of the messages
+pub needs_inside : (needs : List (List ℕ)) (m : ℕ) → AreLists needs → 1 ≤ m → (i : ℕ) → Contains (needs_of needs m) i → (1 ≤ i) × (i ≤ length needs)
+needs_inside needs m lists from i there =
+    let need : IsNeed needs i m = record { from = from; listed = there } in
+    (lists.from i m need, omega (arith, lists.earlier i m need, need_within needs i m need))
 
 -- each order of service is one that a planner can follow
-pub service_order : (service : Service) (work : Work) (issued : List ℕ) (needs : List (List ℕ)) (links : ℕ) → Fits service work → AreKnown service work.count issued needs links → IsSmall work
+pub service_order : (service : Service) (work : Work) (issued : List ℕ) (needs : List (List ℕ)) → Fits service work → AreKnown service work.count issued needs → IsSmall work
     → IsServiceOrder work (order_by (basis_of service) work)
-service_order (ByNumber given) work issued needs links fits known small = numbers_serve given.now work fits.2 fits.0 fits.1 small
-service_order (ByIssue issues) work issued needs links fits known small = issues_serve issues.case.tree.now issues.spans.now issues.case.assigned.now work
+service_order (ByNumber given) work issued needs fits known small = numbers_serve given.now work fits.2 fits.0 fits.1 small
+service_order (ByIssue issues) work issued needs fits known small = issues_serve issues.case.tree.now issues.spans.now issues.case.assigned.now work
 
 -- what is known of needs is what the order of service tells
-pub knows_of : (service : Service) (work : Work) (issued : List ℕ) (needs : List (List ℕ)) (links : ℕ) → AreKnown service work.count issued needs links
+pub knows_of : (service : Service) (work : Work) (issued : List ℕ) (needs : List (List ℕ)) → AreKnown service work.count issued needs
     → (order_by (basis_of service) work).knows issued needs
-knows_of (ByNumber given) work issued needs links known = known
-knows_of (ByIssue issues) work issued needs links known = record { joined = issues.joining; have = known.joined; told = known.told }
+knows_of (ByNumber given) work issued needs known = known
+knows_of (ByIssue issues) work issued needs known = record { joined = issues.joining; have = known.joined; told = known.told }
 
 -- there is a list for each message
-pub known_count : (service : Service) (work : Work) (issued : List ℕ) (needs : List (List ℕ)) (links : ℕ) → Fits service work → AreKnown service work.count issued needs links
+pub known_count : (service : Service) (work : Work) (issued : List ℕ) (needs : List (List ℕ)) → Fits service work → AreKnown service work.count issued needs
     → length needs ≡ work.count
-known_count (ByNumber given) work issued needs links fits known = subst (λ ys. length ys ≡ work.count) (sym known) fits.0
-known_count (ByIssue issues) work issued needs links fits known = known.told.count
+known_count (ByNumber given) work issued needs fits known = subst (λ ys. length ys ≡ work.count) (sym known) fits.0
+known_count (ByIssue issues) work issued needs fits known = known.told.count
 
 -- a need is a message
-pub known_numbers : (service : Service) (work : Work) (issued : List ℕ) (needs : List (List ℕ)) (links : ℕ) → Fits service work → AreKnown service work.count issued needs links
+pub known_numbers : (service : Service) (work : Work) (issued : List ℕ) (needs : List (List ℕ)) → Fits service work → AreKnown service work.count issued needs
     → ((x : ℕ) → Contains issued x → IsNumber work x) → (i m : ℕ) → IsNeed needs i m → IsNumber work i
-known_numbers (ByNumber given) work issued needs links fits known numbers i m need =
+known_numbers (ByNumber given) work issued needs fits known numbers i m need =
     let is = subst (λ ys. IsNeed ys i m) known need in
     record { from = fits.2.from i m is; to = omega (arith, fits.2.earlier i m is, need_within given.now i m is, fits.0) }
-known_numbers (ByIssue issues) work issued needs links fits known numbers i m need = elim (contains_or m issued) [
+known_numbers (ByIssue issues) work issued needs fits known numbers i m need = elim (contains_or m issued) [
   | inl there ↦
       let p = there.0 + 1 in
       let within : IsAmongFirst (length issued) p = record { from = omega arith; to = omega (arith, there.1) } in
@@ -160,24 +161,4 @@ known_numbers (ByIssue issues) work issued needs links fits known numbers i m ne
       let number : IsAmongFirst work.count m = record { from = need.from; to = omega (arith, need_within needs i m need, known.told.count) } in
       let none : Contains [] i = subst (λ xs. Contains xs i) (known.told.of_others m number other) need.listed in
       absurd (omega (arith, none.1))
-]
-
--- no message needs more than there are
-pub known_few : (service : Service) (work : Work) (issued : List ℕ) (needs : List (List ℕ)) (links : ℕ) → Fits service work → AreKnown service work.count issued needs links
-    → length issued ≤ work.count → (m : ℕ) → IsNumber work m → length (needs_of needs m) ≤ work.count
-known_few (ByNumber given) work issued needs links fits known few m number =
-    subst (λ ys. length (needs_of ys m) ≤ work.count) (sym known)
-    (omega (arith, list_few given.now fits.2 m number.from (omega (arith, number.to, fits.0)), number.to))
-known_few (ByIssue issues) work issued needs links fits known few m number = elim (contains_or m issued) [
-  | inl there ↦
-      let p = there.0 + 1 in
-      let within : IsAmongFirst (length issued) p = record { from = omega arith; to = omega (arith, there.1) } in
-      let at : there.0 + 1 - 1 ≡ there.0 = omega arith in
-      let is : served_at issued p ≡ m = ap (λ j. get_or issued j 0) at ∙ get_or_default issued there.0 0 m there.1 ∙ there.2 in
-      let names = ap (λ x. length (needs_of needs x)) (sym is) ∙ ap length (known.told.of_served p within) ∙ length-map (needs_of issues.joining.needs p) (served_at issued) in
-      let long = known.joined.needs.count ∙ length-map issued (affinity_of issues.case.assigned.now) in
-      omega (arith, names, list_few issues.joining.needs known.joined.lists p within.from (omega (arith, within.to, long)), within.to, few)
-  | inr other ↦
-      let none = ap length (known.told.of_others m (record { from = number.from; to = number.to }) other) in
-      omega (arith, none)
 ]

@@ -1,5 +1,5 @@
 -- A message that is ready starts: what is kept stays, and the issue of what follows it becomes known.
-use Rattle.std.proofs.Common.{◌≡◌, ℕ, ◌+◌, ◌-◌, ◌^◌, ◌<◌, ◌≤◌, inl, inr, List, [], ◌∷◌, ◌++◌, length, map, get_or, set, All, Contains, Some, arith, refl, sym, ◌∙◌, ap, subst}
+use Rattle.std.proofs.Common.{◌≡◌, ℕ, ◌+◌, ◌-◌, ◌^◌, ◌<◌, ◌≤◌, inl, inr, List, [], ◌∷◌, ◌++◌, map, get_or, set, All, Contains, Some, arith, refl, sym, ◌∙◌, ap, subst}
 use Rattle.std.specs.List.Sorted.{IsPermutation}
 use Rattle.std.proofs.lemmas.Option.{same_Some}
 use Rattle.std.proofs.lemmas.Bool.{cases_eq}
@@ -15,17 +15,17 @@ use Rattle.waff_list.specs.Issuing.{AreIssues, AreServed, IsIssuedNext}
 use Rattle.waff_list.specs.ListRule.{IsReady}
 use Rattle.waff_list.specs.Orders.{IsServiceOrder, TakesFirst}
 use Rattle.waff_list.specs.Placed.{Placed}
-use Rattle.waff_list.specs.Plannable.{AreLeftBut, AreNoted, IsKept, IsPlannedTo, Plannable}
+use Rattle.waff_list.specs.Plannable.{HaveFinishedBy, IsKept, IsPlannedTo, Plannable}
 use Rattle.waff_list.specs.Progress.{IsSmall}
-use Rattle.waff_list.specs.Ready.{AreRanked, IsFree}
+use Rattle.waff_waits.specs.Ready.{AreRanked}
+use Rattle.waff_waits.specs.Waits.{IsFree, WhoWaits}
 use Rattle.waff_list.specs.Seating.{worker_of}
-use Rattle.waff_list.specs.Waiting.{AreEach, running_needs, unplaced_needs}
+use Rattle.waff_waits.specs.Times.{AreEach}
 use Rattle.waff_plan.specs.declared.due.TheConstants.{NEVER}
-use Rattle.waff_list.proofs.CountLemmas.{left_place}
-use Rattle.waff_list.proofs.Each.{contains_first, contains_map, each_more, each_moved, each_same}
+use Rattle.waff_waits.proofs.Each.{contains_first, contains_map, each_more, each_moved, each_same}
 use Rattle.waff_list.proofs.IssueLemmas.{followed_by, issue_le, issue_same}
 use Rattle.waff_list.proofs.IssuePlans.{follows_messages, issued_to}
-use Rattle.waff_list.proofs.Keeping.{need_number, starting_in_order, sums, sums_are}
+use Rattle.waff_list.proofs.Keeping.{starting_in_order}
 use Rattle.waff_list.proofs.Making.{IsMovedTo}
 use Rattle.waff_list.proofs.Orders.{order_alike}
 use Rattle.waff_list.proofs.Starting.{IsStartingOf, late, is_ready, starts_issue, starts_issued, starts_more, starts_moved}
@@ -33,13 +33,13 @@ use Rattle.waff_list.proofs.Uniqueness.{FollowsMessages}
 
 -- while messages start at now: the plan has been made up to the message turn, all that are issued by now have been, what is kept is known, and what
 -- was placed stays
-pub record IsFilling (p : Plannable) (old : List ℕ) (placed : Placed) (finishes : List (ℕ × ℕ)) (idle left ready : List ℕ) (trails : List (List ℕ)) (issues : List (ℕ × ℕ))
+pub record IsFilling (p : Plannable) (old : List ℕ) (placed : Placed) (finishes : List (ℕ × ℕ)) (idle : List ℕ) (waits : WhoWaits) (ready : List ℕ) (issues : List (ℕ × ℕ))
     (was : List (ℕ × (ℕ × ℕ))) (issued : List ℕ) (needs : List (List ℕ)) (now turn : ℕ) : Type 0 where
   pub to : turn ≤ p.work.count + 1
   pub planned : IsPlannedTo p placed now turn now
   pub served : AreServed p.work (start_of placed.starts) now issued
   pub known : AreIssues p.work (start_of placed.starts) now issues
-  pub kept : IsKept p placed (record { finishes = finishes; idle = idle; left = left; ready = ready }) trails issued needs now
+  pub kept : IsKept p placed (record { finishes = finishes; idle = idle; waits = waits; ready = ready }) issued needs now
   pub ranked : AreRanked p.priority (p.order.key (start_of placed.starts)) was
   pub early : All (λ r. issue_of p.work (start_of placed.starts) r.1.1 ≤ now) was
   pub stay : (m : ℕ) → IsNumber p.work m → start_of old m ≤ now → start_of placed.starts m ≡ start_of old m
@@ -50,37 +50,37 @@ module _ (p : Plannable) (order : IsServiceOrder p.work p.order) (follows : Foll
   followed = follows_messages p.work follows
 
   -- the workers that are idle, in another order
-  idle_moved : (placed : Placed) (finishes : List (ℕ × ℕ)) (idle free left ready : List ℕ) (trails : List (List ℕ)) (issued : List ℕ) (needs : List (List ℕ)) (now : ℕ) → IsPermutation idle free
-      → IsKept p placed (record { finishes = finishes; idle = idle; left = left; ready = ready }) trails issued needs now
-      → IsKept p placed (record { finishes = finishes; idle = free; left = left; ready = ready }) trails issued needs now
-  idle_moved placed finishes idle free left ready trails issued needs now other h =
+  idle_moved : (placed : Placed) (finishes : List (ℕ × ℕ)) (idle free : List ℕ) (waits : WhoWaits) (ready : List ℕ) (issued : List ℕ) (needs : List (List ℕ)) (now : ℕ) → IsPermutation idle free
+      → IsKept p placed (record { finishes = finishes; idle = idle; waits = waits; ready = ready }) issued needs now
+      → IsKept p placed (record { finishes = finishes; idle = free; waits = waits; ready = ready }) issued needs now
+  idle_moved placed finishes idle free waits ready issued needs now other h =
       let run = map (λ (r : ℕ × ℕ). worker_of placed.seats r.1) finishes in
       record {
         count = h.count;
         knows = h.knows;
-        noted = h.noted;
-        left = h.left;
+        waits = h.waits;
+        over = h.over;
         finishes = h.finishes;
         manned = each_moved (IsAmongFirst p.workers) (idle ++ run) h.manned (free ++ run) (IsPermutation-append_left run idle free other);
         ready = h.ready;
       }
 
   -- one message more starts on the least worker that is idle
-  module _ (old : List ℕ) (placed : Placed) (finishes : List (ℕ × ℕ)) (idle free waiting left : List ℕ) (trails : List (List ℕ)) (issues : List (ℕ × ℕ)) (was : List (ℕ × (ℕ × ℕ)))
+  module _ (old : List ℕ) (placed : Placed) (finishes : List (ℕ × ℕ)) (idle free waiting : List ℕ) (waits : WhoWaits) (issues : List (ℕ × ℕ)) (was : List (ℕ × (ℕ × ℕ)))
       (issued : List ℕ) (needs : List (List ℕ)) (now turn m w : ℕ) (short : now + 2 ^ 33 < NEVER)
       (up_to : turn ≤ m) (popped : IsPermutation idle (w ∷ free)) (smallest : (v : ℕ) → Contains free v → w ≤ v)
-      (h : IsFilling p old placed finishes idle left (m ∷ waiting) trails issues was issued needs now turn) where
+      (h : IsFilling p old placed finishes idle waits (m ∷ waiting) issues was issued needs now turn) where
     abbrev start : ℕ → ℕ
     start = start_of placed.starts
 
     soon : now < NEVER
     soon = omega (arith, short)
 
-    kept : IsKept p placed (record { finishes = finishes; idle = w ∷ free; left = left; ready = m ∷ waiting }) trails issued needs now
-    kept = idle_moved placed finishes idle (w ∷ free) left (m ∷ waiting) trails issued needs now popped h.kept
+    kept : IsKept p placed (record { finishes = finishes; idle = w ∷ free; waits = waits; ready = m ∷ waiting }) issued needs now
+    kept = idle_moved placed finishes idle (w ∷ free) waits (m ∷ waiting) issued needs now popped h.kept
 
     on : IsStartingOf (p.order.before start) (TakesFirst p.priority (p.order.key start)) p.work p.workers placed finishes (w ∷ free) (m ∷ waiting) now turn
-    on = starting_in_order p order placed (record { finishes = finishes; idle = w ∷ free; left = left; ready = m ∷ waiting }) trails issued needs now turn soon h.to h.served h.planned kept
+    on = starting_in_order p order placed (record { finishes = finishes; idle = w ∷ free; waits = waits; ready = m ∷ waiting }) issued needs now turn h.to h.served h.planned kept
 
     ready_at : (x : ℕ) → Contains (m ∷ waiting) x → IsReady (p.order.before start) p.work start now x
     ready_at = is_ready p.work p.workers followed (p.order.before start) (TakesFirst p.priority (p.order.key start)) (order.numbers start) placed finishes now turn (w ∷ free) (m ∷ waiting) on
@@ -182,39 +182,27 @@ module _ (p : Plannable) (order : IsServiceOrder p.work p.order) (follows : Foll
           }
     ]
 
-    -- those that have not finished are those that had not
-    noted_after : AreNoted p.work later now needs trails
-    noted_after = record {
-      count = kept.noted.count;
-      each = λ i d from d_number unfinished. kept.noted.each i d from d_number (elim (cases_eq i m) [
-        | inl same ↦ omega (arith, ap start same, never, soon)
-        | inr other ↦ omega (arith, unfinished, moved.others i from other)
-      ]);
-      only = kept.noted.only;
+    -- those have finished that had
+    over_after : HaveFinishedBy p.work later now waits
+    over_after = record {
+      only = λ i i_number done. elim (cases_eq i m) [
+        | inl same ↦
+            let was = kept.over.only i i_number done in
+            absurd (omega (arith, was, ap start same, never, soon))
+        | inr other ↦ omega (arith, kept.over.only i i_number done, moved.others i i_number.from other)
+      ];
+      each = λ i i_number over. elim (cases_eq i m) [
+        | inl same ↦ absurd (omega (arith, over, ap later same, moved.here, ap p.work.cost same, cost))
+        | inr other ↦ kept.over.each i i_number (omega (arith, over, moved.others i i_number.from other))
+      ];
     }
 
     early_at : (r : ℕ × (ℕ × ℕ)) → Contains was r → issue_of p.work start r.1.1 ≤ now
     early_at r listed = All-contains (λ (s : ℕ × (ℕ × ℕ)). issue_of p.work start s.1.1 ≤ now) was r h.early listed
 
     module _ (after : List (ℕ × ℕ)) (pushed : IsPermutation ((now + p.work.cost m, m) ∷ finishes) after) where
-      sums_after : (d : ℕ) → IsNumber p.work d → unplaced_needs needs start d + running_needs needs finishes d ≡ unplaced_needs needs later d + running_needs needs after d
-      sums_after d d_number =
-          let was = sums_are p.work needs start finishes kept.count in
-          let is = left_place needs p.work
-          (need_number p order placed (record { finishes = finishes; idle = w ∷ free; left = left; ready = m ∷ waiting }) trails issued needs now turn now soon h.served h.planned kept) kept.count
-          start later m (now + p.work.cost m) finishes after (sums p.work needs start finishes) never (λ again. omega (arith, moved.here, again, soon)) moved.others pushed was in
-          let inside : d ≤ length needs = omega (arith, d_number.to, kept.count) in
-          omega (arith, was.counts d d_number.from inside, is.counts d d_number.from inside)
-
-      left_after : AreLeftBut p.work issued needs later after left
-      left_after = record {
-        count = kept.left.count;
-        here = λ d d_number is. omega (arith, kept.left.here d d_number is, sums_after d d_number);
-        later = λ d d_number is. omega (arith, kept.left.later d d_number is, sums_after d d_number);
-      }
-
       pub filling_after : (next : ℕ) (new : List (ℕ × ℕ)) → IsFollower p.work p.work.count m next → IsIssuedNext p.work later next issues new
-          → IsFilling p old placed_more after free left waiting trails new was issued needs now (m + 1)
+          → IsFilling p old placed_more after free waits waiting new was issued needs now (m + 1)
       filling_after next new is told =
           let on_after = starts_more p.work p.workers followed (p.order.before start) (TakesFirst p.priority (p.order.key start)) (order.numbers start) placed finishes now turn free waiting m w on soon cost up_to smallest
           (p.order.before later) (TakesFirst p.priority (p.order.key later)) (λ i j pair. (order.numbers later i j pair).1) (order_alike p.work p.order order p.priority start later now there back) after pushed in
@@ -226,11 +214,11 @@ module _ (p : Plannable) (order : IsServiceOrder p.work p.order) (follows : Foll
             kept = record {
               count = kept.count;
               knows = kept.knows;
-              noted = noted_after;
-              left = left_after;
+              waits = kept.waits;
+              over = over_after;
               finishes = on_after.finishes;
               manned = on_after.manned;
-              ready = subst (λ xs. AreEach (IsFree p.work left) xs) (sym (append_assoc placed.order (m ∷ []) waiting)) kept.ready;
+              ready = subst (λ xs. AreEach (IsFree issued waits) xs) (sym (append_assoc placed.order (m ∷ []) waiting)) kept.ready;
             };
             ranked = All-weaker (Contains was) (λ (r : ℕ × (ℕ × ℕ)). (r.0 ≡ p.priority r.1.1) × (r.1.0 ≡ p.order.key later r.1.1))
                 (λ (r : ℕ × (ℕ × ℕ)) listed.

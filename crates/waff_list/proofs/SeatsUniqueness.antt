@@ -3,7 +3,7 @@ use Rattle.std.proofs.Common.{◌≡◌, ◌≢◌, ℕ, zero, suc, ◌<◌, inl
 use Rattle.std.proofs.lemmas.Bool.{cases_lt, cases_eq, cases_order}
 use Rattle.waff_plan.specs.Work.{Work, IsNumber}
 use Rattle.waff_plan.specs.Unique.{AreSame}
-use Rattle.waff_list.proofs.Each.{none_there, contains_more}
+use Rattle.waff_waits.proofs.Each.{none_there, contains_more}
 use Rattle.waff_list.specs.Seats.{ComesBefore, HoldsWorker, IsSeated, IsInOrder}
 use Rattle.waff_list.specs.Unique.{AreSeated, SeatsAreOne, OrderIsOne}
 

@@ -7,7 +7,7 @@ use Rattle.waff_model.specs.Numbers.{IsAmongFirst}
 use Rattle.waff_order.specs.Joined.{Joined}
 use Rattle.waff_order.specs.Needs.{AreLists, IsNeed, needs_of}
 use Rattle.waff_list.specs.Issuing.{AreNeedsByNumber, served_at}
-use Rattle.waff_list.proofs.Each.{map_same}
+use Rattle.waff_waits.proofs.Each.{map_same}
 
 module _ (messages : ℕ) (served : List ℕ) (m : ℕ) (joined after : Joined) (list : List ℕ) (needs : List (List ℕ)) (number : IsAmongFirst messages m) (new : Contains served m → ⊥)
     (known : (x : ℕ) → Contains served x → 1 ≤ x) (count : length joined.needs ≡ length served) (listed : after.needs ≡ joined.needs ++ list ∷ []) (lists : AreLists joined.needs)

@@ -13,7 +13,7 @@ use Rattle.waff_order.specs.Needs.{IsNeed, needs_of}
 use Rattle.waff_order.specs.Joined.{Joined, HaveJoined}
 use Rattle.waff_order.proofs.NeedLemmas.{need_within}
 use Rattle.waff_list.specs.Issuing.{AreNeedsByNumber, AreServed, served_at}
-use Rattle.waff_list.proofs.Each.{contains_map, contains_mapped, each_there}
+use Rattle.waff_waits.proofs.Each.{contains_map, contains_mapped, each_there}
 
 module _ (tree : List Node) (spans : List Span) (assigned : List ℕ) (work : Work) where
   abbrev before_at : (ℕ → ℕ) → Relation

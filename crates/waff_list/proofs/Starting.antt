@@ -11,9 +11,10 @@ use Rattle.waff_list.specs.ListRule.{IsReady}
 use Rattle.waff_list.specs.Placed.{Placed}
 use Rattle.waff_list.specs.Progress.{IsProgressOf}
 use Rattle.waff_list.specs.Seating.{worker_of}
-use Rattle.waff_list.specs.Waiting.{AreEach, AreFinishes, AreManned}
+use Rattle.waff_waits.specs.Times.{AreEach}
+use Rattle.waff_list.specs.Waiting.{AreFinishes, AreManned}
 use Rattle.waff_plan.specs.declared.due.TheConstants.{NEVER}
-use Rattle.waff_list.proofs.Each.{none_there, contains_first, each_there, each_apart}
+use Rattle.waff_waits.proofs.Each.{none_there, contains_first, each_there, each_apart}
 use Rattle.waff_list.proofs.FinishLemmas.{finishes_place}
 use Rattle.waff_list.proofs.Making.{IsMovedTo, IsPassedOver, all_run, more_placed, moved_here, progress_place, manned_place, progress_skip, progress_filled, ready_place, issue_was, issue_stays}
 use Rattle.waff_list.proofs.Uniqueness.{AreAlike, FollowsMessages}

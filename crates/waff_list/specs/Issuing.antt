@@ -1,14 +1,14 @@
 -- Messages are issued while a list plan is made, in the order of their issues. The needs of one are
 -- known among those that were issued before it.
 use Rattle.std.specs.Prelude.{◌≡◌, ◌≢◌, ℕ, ◌-◌, ◌<◌, ◌≤◌, ◌⊎◌, List, [], ◌∷◌, ◌++◌, length, map}
-use Rattle.std.specs.Prelude.{All, AllPairs, Contains, slice_index, count_by, nat_lt}
+use Rattle.std.specs.Prelude.{All, AllPairs, Contains, slice_index}
 use Rattle.std.specs.List.Sorted.{IsPermutation}
 use Rattle.waff_model.specs.Numbers.{IsAmongFirst}
 use Rattle.waff_order.specs.Joined.{Joined}
 use Rattle.waff_order.specs.Needs.{needs_of}
 use Rattle.waff_plan.specs.Issues.{IsIssuedBefore}
-use Rattle.waff_plan.specs.Work.{Work, IsNumber, finish_of, issue_of}
-use Rattle.waff_list.specs.Waiting.{AreEach}
+use Rattle.waff_plan.specs.Work.{Work, IsNumber, issue_of}
+use Rattle.waff_waits.specs.Times.{AreEach}
 use Rattle.waff_plan.specs.declared.due.TheConstants.{NEVER}
 
 -- the message at this place of the order of issue, from 1
@@ -46,10 +46,6 @@ pub record AreNeedsByNumber (messages : ℕ) (issued : List ℕ) (joined : Joine
   pub of_served : (p : ℕ) → IsAmongFirst (length issued) p
       → needs_of needs (served_at issued p) ≡ map (served_at issued) (needs_of joined.needs p)
   pub of_others : (m : ℕ) → IsAmongFirst messages m → (Contains issued m → ⊥) → needs_of needs m ≡ []
-
--- how many of these messages have not finished by now
-abbrev pub unfinished : Work → (ℕ → ℕ) → ℕ → List ℕ → ℕ
-unfinished work start now xs = count_by (λ i. nat_lt now (finish_of work start i)) xs
 
 -- this message, where it is not 0, is issued when it is in this plan, and the others as they were
 pub record IsIssuedNext (work : Work) (start : ℕ → ℕ) (next : ℕ) (old new : List (ℕ × ℕ))

@@ -5,7 +5,6 @@ pub mod Bound
 pub mod Progress
 pub mod Seating
 pub mod Waiting
-pub mod Trails
 pub mod Unique
 pub mod Tails
 pub mod Rules

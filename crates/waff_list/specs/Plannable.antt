@@ -1,21 +1,20 @@
 -- A list plan in an order of service while it is made, and when it is made. A message waits from its
 -- issue on, for no more than its needs.
-use Rattle.std.specs.Prelude.{◌≡◌, ℕ, ◌+◌, ◌<◌, ◌≤◌, List, ◌++◌, length, All, Contains}
+use Rattle.std.specs.Prelude.{◌≡◌, ℕ, ◌≤◌, List, ◌++◌, length, All}
 use Rattle.waff_model.specs.Numbers.{IsAmongFirst}
 use Rattle.waff_model.specs.declared.limits.TheConstants.{MAX_TICK}
-use Rattle.waff_order.specs.Needs.{needs_of}
 use Rattle.waff_plan.specs.Timing.{start_of}
 use Rattle.waff_plan.specs.Work.{Work, IsNumber, finish_of}
+use Rattle.waff_waits.specs.Times.{AreEach}
+use Rattle.waff_waits.specs.Waits.{AreWaits, HasFinished, IsFree, WhoWaits}
 use Rattle.waff_list.specs.ListRule.{IsListPlan}
 use Rattle.waff_list.specs.Orders.{Order, TakesFirst}
 use Rattle.waff_list.specs.Placed.{Pending, Placed}
 use Rattle.waff_list.specs.Progress.{IsProgressOf}
-use Rattle.waff_list.specs.Ready.{IsFree}
 use Rattle.waff_list.specs.Seating.{worker_of}
 use Rattle.waff_list.specs.Seats.{IsInOrder}
 use Rattle.waff_list.specs.Unique.{AreSeated}
-use Rattle.waff_list.specs.Waiting.{AreEach, AreFinishes, AreManned, dependents_of, left_of}
-use Rattle.waff_list.specs.Waiting.{running_needs, times, unplaced_needs}
+use Rattle.waff_list.specs.Waiting.{AreFinishes, AreManned}
 
 -- what is planned: messages with their work and their priorities, for so many workers, in an order of
 -- service
@@ -31,40 +30,26 @@ IsPlannedTo p placed =
     IsProgressOf (p.order.before (start_of placed.starts))
     (TakesFirst p.priority (p.order.key (start_of placed.starts))) p.work p.workers placed
 
--- a message that has not finished by now is noted with those that need it
-pub record AreNoted (work : Work) (start : ℕ → ℕ) (now : ℕ) (needs trails : List (List ℕ))
-    : Type 0 where
-  pub count : length trails ≡ length needs
-  pub each : (i m : ℕ) → 1 ≤ i → IsNumber work m → now < finish_of work start i
-      → times m (dependents_of trails i) ≡ times i (needs_of needs m)
-  pub only : (i m : ℕ) → Contains (dependents_of trails i) m → IsNumber work m
-
--- the count of each message: how many of its needs have not been placed or run, and one more until it is
--- issued
-pub record AreLeftBut (work : Work) (issued : List ℕ) (needs : List (List ℕ)) (start : ℕ → ℕ)
-    (finishes : List (ℕ × ℕ)) (left : List ℕ) : Type 0 where
-  pub count : length left ≡ work.count
-  pub here : (m : ℕ) → IsNumber work m → Contains issued m
-      → left_of left m ≡ unplaced_needs needs start m + running_needs needs finishes m
-  pub later : (m : ℕ) → IsNumber work m → (Contains issued m → ⊥)
-      → left_of left m ≡ unplaced_needs needs start m + running_needs needs finishes m + 1
+-- those of the messages have finished that finish by now
+pub record HaveFinishedBy (work : Work) (start : ℕ → ℕ) (now : ℕ) (w : WhoWaits) : Type 0 where
+  pub only : (i : ℕ) → IsNumber work i → HasFinished w i → finish_of work start i ≤ now
+  pub each : (i : ℕ) → IsNumber work i → finish_of work start i ≤ now → HasFinished w i
 
 -- what is kept at the tick now of the messages that run and of those that wait, where these are issued so
 -- far and these needs are known
-pub record IsKept (p : Plannable) (placed : Placed) (pending : Pending) (trails : List (List ℕ))
-    (issued : List ℕ) (needs : List (List ℕ)) (now : ℕ) : Type 0 where
+pub record IsKept (p : Plannable) (placed : Placed) (pending : Pending) (issued : List ℕ)
+    (needs : List (List ℕ)) (now : ℕ) : Type 0 where
   -- the order of service knows what those that are issued need
   pub count : length needs ≡ p.work.count
   pub knows : p.order.knows issued needs
-  -- a message waits for its needs that have not been placed or run, and for its issue; and is noted with
-  -- each need
-  pub noted : AreNoted p.work (start_of placed.starts) now needs trails
-  pub left : AreLeftBut p.work issued needs (start_of placed.starts) pending.finishes pending.left
+  -- a message that is issued waits for its needs that have not finished
+  pub waits : AreWaits issued needs pending.waits
+  pub over : HaveFinishedBy p.work (start_of placed.starts) now pending.waits
   -- those that run, each on a worker that is not idle
   pub finishes : AreFinishes p.work (start_of placed.starts) now pending.finishes
   pub manned : AreManned p.workers placed.seats pending.finishes pending.idle
-  -- those that wait for nothing more are placed or ready
-  pub ready : AreEach (IsFree p.work pending.left) (placed.order ++ pending.ready)
+  -- those that wait for nothing are placed or ready
+  pub ready : AreEach (IsFree issued pending.waits) (placed.order ++ pending.ready)
 
 -- all messages are placed
 pub record IsMade (p : Plannable) (placed : Placed) : Type 0 where

@@ -1,6 +1,6 @@
 -- What the planner keeps, in its own values.
 use Rattle.std.specs.Prelude.{◌≡◌, ◌≢◌, ℕ, ◌+◌, ◌-◌, ◌<◌, ◌≤◌, List, [], ◌∷◌, ◌++◌, length, map, Contains}
-use Rattle.std.specs.Prelude.{slice_set, sum_by, ⊤}
+use Rattle.std.specs.Prelude.{slice_set, false, replicate, ⊤}
 use Rattle.std.specs.List.Sorted.{IsPermutation}
 use Rattle.waff_assign.specs.Order.{affinity_of}
 use Rattle.waff_order.specs.Joined.{HaveJoined}
@@ -8,15 +8,15 @@ use Rattle.waff_order.specs.Needs.{AreLists, needs_of}
 use Rattle.waff_plan.specs.Obeys.{FollowsNone}
 use Rattle.waff_plan.specs.Pending.{IsFollower}
 use Rattle.waff_plan.specs.Timing.{start_of, work_of}
-use Rattle.waff_plan.specs.Work.{Work, IsNumber, finish_of}
+use Rattle.waff_plan.specs.Work.{Work, IsNumber}
 use Rattle.waff_list.specs.Issuing.{AreIssues, AreJoining, AreNeedsByNumber, AreServed}
-use Rattle.waff_list.specs.Issuing.{IsIssuedNext, unfinished}
+use Rattle.waff_list.specs.Issuing.{IsIssuedNext}
 use Rattle.waff_list.specs.Placed.{Pending, Placed}
 use Rattle.waff_list.specs.Plannable.{IsKept, IsPlannedTo, Plannable}
-use Rattle.waff_list.specs.Ready.{AreRanked, ranked_in}
+use Rattle.waff_waits.specs.Ready.{AreRanked, ranked_in}
 use Rattle.waff_list.specs.Telling.{Basis, basis_of, order_by, priority_in}
-use Rattle.waff_list.specs.Trails.{AreLinked, trails}
-use Rattle.waff_list.specs.Waiting.{AreDependents, Grows, LeavesLeast, dependents_of, left_of, times}
+use Rattle.waff_waits.specs.Waits.{Enters, WhoWaits}
+use Rattle.waff_list.specs.Waiting.{LeavesLeast}
 use Rattle.waff_list.specs.declared.progress.Progress.{Progress}
 use Rattle.waff_list.specs.declared.issued.Issued.{Issued}
 use Rattle.waff_list.specs.declared.service.Service.{Service}
@@ -41,7 +41,7 @@ abbrev pub pending_in : Progress → Waiting → List ℕ → Pending
 pending_in p w rest = record {
   finishes = p.finishes;
   idle = p.idle;
-  left = w.left.items;
+  waits = w.waits;
   ready = rest ++ ranked_in w.ready;
 }
 
@@ -49,20 +49,18 @@ pending_in p w rest = record {
 abbrev pub IsPlanned : Task → Basis → Progress → ℕ → ℕ → ℕ → Type 0
 IsPlanned task basis p = IsPlannedTo (plannable_of task basis) (placed_in p)
 
--- these are the messages that have joined, and these the needs of each by number; there are no more links
--- than needs
+-- these are the messages that have joined, and these the needs of each by number
 pub record AreJoined (issues : Issued) (count : ℕ) (issued : List ℕ) (needs : List (List ℕ))
-    (links : ℕ) : Type 0 where
+    : Type 0 where
   pub messages : issues.messages.items ≡ issued
   pub joined : HaveJoined issues.case.tree.now issues.spans.now
       (map (affinity_of issues.case.assigned.now) issued) issues.joining
   pub told : AreNeedsByNumber count issued issues.joining needs
-  pub few : links ≤ sum_by length issues.joining.needs
 
 -- these are the needs that are known, of the messages that are issued so far
-abbrev pub AreKnown : Service → ℕ → List ℕ → List (List ℕ) → ℕ → Type 0
-AreKnown (ByNumber all) count issued needs links = needs ≡ all.now
-AreKnown (ByIssue issues) count issued needs links = AreJoined issues count issued needs links
+abbrev pub AreKnown : Service → ℕ → List ℕ → List (List ℕ) → Type 0
+AreKnown (ByNumber all) count issued needs = needs ≡ all.now
+AreKnown (ByIssue issues) count issued needs = AreJoined issues count issued needs
 
 -- the service is one of messages with this work; where it is by number no message follows another
 abbrev pub Fits : Service → Work → Type 0
@@ -75,14 +73,14 @@ IsFresh (ByNumber needs) = ⊤
 IsFresh (ByIssue issues) = (issues.messages.items ≡ [])
     × HaveJoined issues.case.tree.now issues.spans.now [] issues.joining
 
--- a new one: by number each message waits for its issue and for its needs, by issue for its issue alone
+-- a new one: no message waits and none has finished
 pub record IsNoneIssued (w : Waiting) (work : Work) : Type 0 where
   pub needs : List (List ℕ)
-  pub known : AreKnown w.service work.count [] needs (length w.dependents.links.items)
-  pub linked : AreLinked w.dependents
-  pub dependents : AreDependents needs (trails w.dependents) work.count
-  pub count : length w.left.items ≡ work.count
-  pub left : (m : ℕ) → IsNumber work m → left_of w.left.items m ≡ length (needs_of needs m) + 1
+  pub known : AreKnown w.service work.count [] needs
+  pub waits : w.waits ≡ record {
+    awaited = replicate work.count [];
+    finished = replicate work.count false;
+  }
   pub ready : w.ready ≡ []
 
 -- message m is one that is not issued yet, after these
@@ -92,31 +90,24 @@ pub record IsNew (work : Work) (issued : List ℕ) (m : ℕ) : Type 0 where
   pub numbers : (x : ℕ) → Contains issued x → IsNumber work x
   pub room : length issued < work.count
 
--- message m is issued: its needs are known from now on, it is noted with those that have not finished by
--- now, and waits for so many things more
-pub record IsLearnt (service : Service) (work : Work) (start : ℕ → ℕ) (now : ℕ) (issued : List ℕ)
-    (needs : List (List ℕ)) (m : ℕ) (old new : List (List ℕ)) (links left : ℕ) : Type 0 where
+-- message m is issued: its needs are known from now on, and it waits for those that have not
+-- finished
+pub record IsLearnt (service : Service) (work : Work) (issued : List ℕ) (needs : List (List ℕ))
+    (m : ℕ) (old new : WhoWaits) : Type 0 where
   pub more : List (List ℕ)
-  pub known : AreKnown service work.count (issued ++ m ∷ []) more links
+  pub known : AreKnown service work.count (issued ++ m ∷ []) more
   pub others : (x : ℕ) → 1 ≤ x → x ≢ m → needs_of more x ≡ needs_of needs x
-  pub grows : Grows old m new
-  pub added : (i : ℕ) → 1 ≤ i → now < finish_of work start i
-      → times m (dependents_of new i) + times i (needs_of needs m)
-      ≡ times m (dependents_of old i) + times i (needs_of more m)
-  pub waits : left + unfinished work start now (needs_of needs m)
-      ≡ unfinished work start now (needs_of more m)
+  pub enters : Enters old m (needs_of more m) new
 
 -- what is kept of the messages that wait, and of those that run, where these messages are ready before
 -- those that are kept so, and these are issued
 pub record IsWaiting (task : Task) (p : Progress) (w : Waiting) (rest issued : List ℕ) (now : ℕ)
     : Type 0 where
   pub needs : List (List ℕ)
-  pub kept : IsKept (plannable_of task (basis_of w.service)) (placed_in p) (pending_in p w rest)
-      (trails w.dependents) issued needs now
+  pub kept : IsKept (plannable_of task (basis_of w.service)) (placed_in p)
+      (pending_in p w rest) issued needs now
   pub known : AreKnown w.service (length task.timings.items) issued needs
-      (length w.dependents.links.items)
   pub fits : Fits w.service (work_of task.timings.items)
-  pub linked : AreLinked w.dependents
   pub ranked : AreRanked (priority_in task)
       ((order_by (basis_of w.service) (work_of task.timings.items)).key (start_of p.starts.items))
       w.ready

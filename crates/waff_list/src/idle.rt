@@ -3,7 +3,8 @@
 ghost use Rattle.std.specs.Prelude.{◌≡◌, [], ◌∷◌, length, OnOk, IfOk, MatchOption};
 ghost use Rattle.std.specs.List.Sorted.{IsPermutation};
 ghost use Rattle.waff_model.specs.Numbers.{IsAmongFirst};
-ghost use Rattle.waff_list.specs.Waiting.{AreEach, LeavesLeast};
+ghost use Rattle.waff_waits.specs.Times.{AreEach};
+ghost use Rattle.waff_list.specs.Waiting.{LeavesLeast};
 
 use std::alloc::{AllocError, Global};
 use std::cmp::Reverse;

@@ -11,12 +11,12 @@ ghost use Rattle.waff_list.specs.Ready.{AreGathered};
 ghost use Rattle.waff_list.specs.Telling.{basis_of};
 
 use crate::progress::Progress;
-use crate::ready::Ready;
 use crate::service::Service;
 use crate::task::Task;
 use crate::waiting::Waiting;
 use std::alloc::{AllocError, Global};
 use waff_plan::NEVER;
+use waff_waits::Ready;
 
 /// Makes the plan of these messages in this order of service.
 pub(crate) fn make(alloc: Global, task: &Task, service: Service) -> Result<Progress, AllocError>

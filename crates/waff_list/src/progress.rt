@@ -6,7 +6,7 @@ ghost use Rattle.waff_plan.specs.Pending.{AreFirst};
 ghost use Rattle.waff_plan.specs.Timing.{work_of};
 ghost use Rattle.waff_plan.specs.Work.{issue_of};
 ghost use Rattle.waff_list.specs.Planning.{IsStarted};
-ghost use Rattle.waff_list.specs.Waiting.{AreEach};
+ghost use Rattle.waff_waits.specs.Times.{AreEach};
 
 use crate::idle::Idle;
 use crate::task::Task;

@@ -1,23 +1,19 @@
 //! The order in which messages that exclude each other are served: that of the trace, or that in
 //! which they are issued.
 
-ghost use Rattle.std.specs.Prelude.{◌≡◌, ◌+◌, ◌^◌, ◌<◌, ◌≤◌, ℕ, List, length, All, IfOk, OnOk};
-ghost use Rattle.waff_model.specs.Numbers.{IsAmongFirst};
-ghost use Rattle.waff_list.specs.Issuing.{unfinished};
+ghost use Rattle.std.specs.Prelude.{◌≡◌, ◌↔◌, ℕ, List, length, IfOk, IsTrue, OnOk};
+ghost use Rattle.waff_plan.specs.Timing.{start_of, work_of};
+ghost use Rattle.waff_waits.specs.Waits.{WaitsForNone};
 ghost use Rattle.waff_list.specs.Planning.{AreJoined, AreKnown, Fits, IsLearnt, IsNew};
 ghost use Rattle.waff_list.specs.Tasks.{HasIssue};
 ghost use Rattle.waff_list.specs.Telling.{basis_of, key_in};
-ghost use Rattle.waff_list.specs.Trails.{AreLinked, trails};
-ghost use Rattle.waff_list.specs.Waiting.{Grows, dependents_of, times};
 ghost use Rattle.waff_list.specs.declared.service.Service.TheVariants.{ByIssue};
-ghost use Rattle.waff_plan.specs.Timing.{start_of, work_of};
-ghost use Rattle.waff_plan.specs.Work.{finish_of};
 
-use crate::dependents::Dependents;
 use crate::issued::Issued;
 use crate::task::Task;
 use std::alloc::AllocError;
 use waff_order::Needs;
+use waff_waits::Waits;
 
 /// The order of service, with the needs of messages.
 #[derive(Drop)]
@@ -29,40 +25,26 @@ pub(crate) enum Service<'a> {
 }
 
 impl<'a> Service<'a> {
-    /// Message `m`, the next one, is issued. By issue its needs are known from now on, and it is noted with
-    /// those that have not finished. How many those are; by number, where all needs are counted from the
-    /// beginning, none.
-    pub fn issue(
-        &mut self,
-        task: &Task,
-        starts: &[u64],
-        now: u64,
-        m: u32,
-        dependents: &mut Dependents,
-    ) -> Result<u32, AllocError>
-        requires tick { now + 2 ^ 32 < 2 ^ 64 }
-        requires starts { length starts.now ≡ length task.now.timings.items }
+    /// Message `m`, the next one, is issued: it waits for those of its needs that have not finished,
+    /// which by issue are known from now on. Whether it waits for nothing.
+    pub fn issue(&mut self, task: &Task, m: u32, waits: &mut Waits) -> Result<bool, AllocError>
         requires fits { Fits self.old (work_of task.now.timings.items) }
         requires known { (issued : List ℕ) × (needs : List (List ℕ))
             × AreKnown self.old (length task.now.timings.items) issued needs
-            (length dependents.old.links.items)
             × IsNew (work_of task.now.timings.items) issued m }
-        requires firsts { length dependents.old.firsts.items ≡ length task.now.timings.items }
-        requires linked { AreLinked dependents.old }
-        ensures linked { OnOk result (AreLinked dependents.new) }
+        requires many { length waits.old.awaited ≡ length task.now.timings.items }
         ensures basis { OnOk result (basis_of self.new ≡ basis_of self.old) }
         ensures fits { OnOk result (Fits self.new (work_of task.now.timings.items)) }
-        ensures learnt { IfOk result (λ left. (issued : List ℕ) (needs : List (List ℕ))
+        ensures none { IfOk result (λ none. IsTrue none ↔ WaitsForNone waits.new m) }
+        ensures learnt { OnOk result ((issued : List ℕ) (needs : List (List ℕ))
             → AreKnown self.old (length task.now.timings.items) issued needs
-            (length dependents.old.links.items)
             → IsNew (work_of task.now.timings.items) issued m
-            → IsLearnt self.new (work_of task.now.timings.items) (start_of starts.now) now issued
-            needs m (trails dependents.old) (trails dependents.new)
-            (length dependents.new.links.items) left) }
+            → IsLearnt self.new (work_of task.now.timings.items)
+            issued needs m waits.old waits.new) }
     {
         match self {
-            Service::ByNumber(_) => Ok(0),
-            Service::ByIssue(issued) => join(issued, task, starts, now, m, dependents),
+            Service::ByNumber(needs) => waits.enter(m, needs.of(m)),
+            Service::ByIssue(issued) => join(issued, task, m, waits),
         }
     }
 
@@ -79,74 +61,24 @@ impl<'a> Service<'a> {
     }
 }
 
-/// Message `m` joins the messages that have been issued, and is noted with those of its needs that have
-/// not finished by now. How many they are.
-fn join(
-    issued: &mut Issued,
-    task: &Task,
-    starts: &[u64],
-    now: u64,
-    m: u32,
-    dependents: &mut Dependents,
-) -> Result<u32, AllocError>
-    requires tick { now + 2 ^ 32 < 2 ^ 64 }
-    requires starts { length starts.now ≡ length task.now.timings.items }
+/// Message `m` joins the messages that have been issued, and waits for those of its needs that have
+/// not finished. Whether it waits for nothing.
+fn join(issued: &mut Issued, task: &Task, m: u32, waits: &mut Waits) -> Result<bool, AllocError>
     requires fits { length issued.old.case.assigned.now ≡ length task.now.timings.items }
     requires joined { (messages : List ℕ) × (needs : List (List ℕ))
         × AreJoined issued.old (length task.now.timings.items) messages needs
-        (length dependents.old.links.items)
         × IsNew (work_of task.now.timings.items) messages m }
-    requires firsts { length dependents.old.firsts.items ≡ length task.now.timings.items }
-    requires linked { AreLinked dependents.old }
-    ensures linked { OnOk result (AreLinked dependents.new) }
+    requires many { length waits.old.awaited ≡ length task.now.timings.items }
     ensures case { OnOk result (issued.new.case ≡ issued.old.case) }
     ensures spans { OnOk result (issued.new.spans ≡ issued.old.spans) }
-    ensures learnt { IfOk result (λ left. (messages : List ℕ) (needs : List (List ℕ))
+    ensures none { IfOk result (λ none. IsTrue none ↔ WaitsForNone waits.new m) }
+    ensures learnt { OnOk result ((messages : List ℕ) (needs : List (List ℕ))
         → AreJoined issued.old (length task.now.timings.items) messages needs
-        (length dependents.old.links.items)
         → IsNew (work_of task.now.timings.items) messages m
-        → IsLearnt (ByIssue issued.new) (work_of task.now.timings.items) (start_of starts.now) now
-        messages needs m (trails dependents.old) (trails dependents.new)
-        (length dependents.new.links.items) left) }
+        → IsLearnt (ByIssue issued.new) (work_of task.now.timings.items)
+        messages needs m waits.old waits.new) }
 {
     issued.join(m)?;
-    let left = note(task, starts, now, m, issued.needs(), dependents)?;
-    Ok(left)
-}
-
-/// Notes message `m` with those of these needs that have not finished by now. How many they are.
-fn note(
-    task: &Task,
-    starts: &[u64],
-    now: u64,
-    m: u32,
-    needs: &[u32],
-    dependents: &mut Dependents,
-) -> Result<u32, AllocError>
-    requires tick { now + 2 ^ 32 < 2 ^ 64 }
-    requires starts { length starts.now ≡ length task.now.timings.items }
-    requires needs { All (IsAmongFirst (length task.now.timings.items)) needs.now }
-    requires firsts { length dependents.old.firsts.items ≡ length task.now.timings.items }
-    requires linked { AreLinked dependents.old }
-    requires room { length dependents.old.links.items + length needs.now < 2 ^ 32 }
-    ensures linked { OnOk result (AreLinked dependents.new) }
-    ensures more { OnOk result (length dependents.new.links.items
-        ≤ length dependents.old.links.items + length needs.now) }
-    ensures grows { OnOk result (Grows (trails dependents.old) m (trails dependents.new)) }
-    ensures added { OnOk result ((i : ℕ) → 1 ≤ i
-        → now < finish_of (work_of task.now.timings.items) (start_of starts.now) i
-        → times m (dependents_of (trails dependents.new) i)
-        ≡ times m (dependents_of (trails dependents.old) i) + times i needs.now) }
-    ensures left { IfOk result (λ left. left ≡ unfinished (work_of task.now.timings.items)
-        (start_of starts.now) now needs.now) }
-{
-    let mut left = 0;
-    for at in 0..needs.len() {
-        let need = needs[at];
-        if !task.has_finished(starts, need, now) {
-            dependents.add(need, m)?;
-            left += 1;
-        }
-    }
-    Ok(left)
+    let none = waits.enter(m, issued.needs())?;
+    Ok(none)
 }

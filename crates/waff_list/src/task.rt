@@ -1,6 +1,6 @@
 //! What is planned: the messages of a trace, and when each may start whatever its needs are.
 
-ghost use Rattle.std.specs.Prelude.{◌≡◌, ◌+◌, ◌^◌, ◌<◌, ◌≤◌, ◌↔◌, length, All, IfOk, IsTrue};
+ghost use Rattle.std.specs.Prelude.{◌≡◌, ◌+◌, ◌^◌, ◌<◌, ◌≤◌, length, All, IfOk};
 ghost use Rattle.std.specs.Option.{ForSome};
 ghost use Rattle.waff_model.specs.Numbers.{IsAmongFirst};
 ghost use Rattle.waff_model.specs.declared.limits.TheConstants.{MAX_MESSAGES};
@@ -8,7 +8,7 @@ ghost use Rattle.waff_plan.specs.Bound.{IsWorkers};
 ghost use Rattle.waff_plan.specs.Obeys.{FollowsEarlier};
 ghost use Rattle.waff_plan.specs.Pending.{AreFollowers, IsFollower};
 ghost use Rattle.waff_plan.specs.Timing.{IsTiming, start_of, timing_of, work_of};
-ghost use Rattle.waff_plan.specs.Work.{finish_of, issue_of};
+ghost use Rattle.waff_plan.specs.Work.{issue_of};
 ghost use Rattle.waff_plan.specs.Timetable.{AreTimings, timings_of, work_of_messages};
 ghost use Rattle.waff_list.specs.Tasks.{HasIssue, tail_in};
 
@@ -132,18 +132,6 @@ impl Task {
                 floor.max(finish + u64::from(timing.think))
             }
         }
-    }
-
-    /// Whether message `m` has started, and has finished by now.
-    pub fn has_finished(&self, starts: &[u64], m: u32, now: u64) -> bool
-        requires number { IsAmongFirst (length self.now.timings.items) m }
-        requires starts { length starts.now ≡ length self.now.timings.items }
-        requires tick { now + 2 ^ 32 < 2 ^ 64 }
-        ensures { IsTrue result
-            ↔ (finish_of (work_of self.now.timings.items) (start_of starts.now) m ≤ now) }
-    {
-        let start = starts[m as usize - 1];
-        start <= now && start + self.cost(m) <= now
     }
 
     /// The timings of the messages.

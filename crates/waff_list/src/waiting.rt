@@ -1,43 +1,37 @@
-//! What messages wait for: their issues, and those of their needs that have not finished.
+//! The messages that have not started: who waits for whom, and which are ready.
 
-ghost use Rattle.std.specs.Prelude.{◌≡◌, ℕ, ◌+◌, ◌-◌, ◌^◌, ◌<◌, ◌≤◌, ◌∷◌, length, All, IfOk, OnOk, slice_set};
+ghost use Rattle.std.specs.Prelude.{◌≡◌, ℕ, ◌+◌, ◌-◌, ◌^◌, ◌<◌, ◌≤◌, List, [], ◌∷◌, ◌++◌};
+ghost use Rattle.std.specs.Prelude.{length, true, All, Contains, IfOk, OnOk, slice_set};
 ghost use Rattle.std.specs.List.Sorted.{IsPermutation};
-ghost use Rattle.waff_model.specs.Numbers.{IsAmongFirst};
-ghost use Rattle.waff_order.specs.Needs.{needs_of};
+ghost use Rattle.waff_plan.specs.Due.{IsDueFirst};
 ghost use Rattle.waff_plan.specs.Timing.{start_of, work_of};
 ghost use Rattle.waff_plan.specs.Work.{IsNumber, issue_of};
+ghost use Rattle.waff_plan.specs.declared.due.TheConstants.{NEVER};
+ghost use Rattle.waff_waits.specs.Ready.{AreRanked, ranked_in};
+ghost use Rattle.waff_waits.specs.Times.{AreEach};
+ghost use Rattle.waff_waits.specs.Waits.{IsFree, waiting_for};
 ghost use Rattle.waff_list.specs.Planning.{AreIssuing, Fits, IsFresh, IsNoneIssued, IsPlanned};
-ghost use Rattle.waff_list.specs.Ready.{AreTold};
 ghost use Rattle.waff_list.specs.Tasks.{HasIssue};
 ghost use Rattle.waff_list.specs.Telling.{basis_of, key_in, priority_in};
-ghost use Rattle.waff_list.specs.Trails.{AreLinked, trails};
-ghost use Rattle.waff_plan.specs.Due.{IsDueFirst};
-ghost use Rattle.waff_plan.specs.declared.due.TheConstants.{NEVER};
-ghost use Rattle.waff_list.specs.Waiting.{dependents_of, left_of, times};
 
-use crate::dependents::Dependents;
 use crate::progress::Progress;
-use crate::ready::Ready;
 use crate::service::Service;
 use crate::task::Task;
 use std::alloc::{AllocError, Global};
-use waff_order::Needs;
+use waff_waits::{Ready, Waits};
 
 /// What is kept of the messages that have not started.
 #[derive(Drop)]
 pub(crate) struct Waiting<'a> {
     pub service: Service<'a>,
-    /// The messages that need each message, as far as needs are known.
-    pub dependents: Dependents,
-    /// How much each message waits for: for its issue, and for each need that is known and has not
-    /// finished.
-    pub left: Vec<u32>,
-    /// Those that wait for nothing more.
+    /// Who waits for whom, of the messages that have been issued.
+    pub waits: Waits,
+    /// Those that wait for nothing.
     pub ready: Ready,
 }
 
 impl<'a> Waiting<'a> {
-    /// No message has been issued yet. By number all needs are known, by issue none.
+    /// No message has been issued yet.
     pub fn new(alloc: Global, service: Service<'a>, task: &Task) -> Result<Self, AllocError>
         requires fits { Fits service (work_of task.now.timings.items) }
         requires fresh { IsFresh service }
@@ -45,19 +39,9 @@ impl<'a> Waiting<'a> {
         ensures waits { IfOk result (λ waiting.
             IsNoneIssued waiting (work_of task.now.timings.items)) }
     {
-        let messages = task.len();
-        let mut left = vec![in alloc; 1; messages as usize]?;
-        let dependents = match &service {
-            Service::ByNumber(needs) => {
-                add_needs(&mut left, needs);
-                Dependents::of_needs(alloc, needs)?
-            }
-            Service::ByIssue(_) => Dependents::none(alloc, messages)?,
-        };
         Ok(Waiting {
             service,
-            dependents,
-            left,
+            waits: Waits::none(alloc, task.len() as usize)?,
             ready: Ready::none(alloc),
         })
     }
@@ -89,83 +73,58 @@ impl<'a> Waiting<'a> {
             (AreIssuing task.now progress.now self.new progress.now.issues now) }
         ensures basis { OnOk result (basis_of self.new.service ≡ basis_of self.old.service) }
     {
-        let starts = progress.starts.as_slice();
-        let needs = self
-            .service
-            .issue(task, starts, now, m, &mut self.dependents)?;
-        self.left[m as usize - 1] += needs;
-        self.tell(task, starts, m)?;
-        Ok(())
-    }
-
-    /// Message `m` has finished: those that need it are told.
-    pub fn finish(&mut self, task: &Task, starts: &[u64], m: u32) -> Result<(), AllocError>
-        requires number { IsNumber (work_of task.now.timings.items) m }
-        requires firsts { length self.old.dependents.firsts.items
-            ≡ length task.now.timings.items }
-        requires linked { AreLinked self.old.dependents }
-        requires issued { All (HasIssue task.now.timings.items starts.now)
-            (dependents_of (trails self.old.dependents) m) }
-        requires count { length self.old.left.items ≡ length task.now.timings.items }
-        requires enough { (d : ℕ) → IsNumber (work_of task.now.timings.items) d
-            → times d (dependents_of (trails self.old.dependents) m)
-            ≤ left_of self.old.left.items d }
-        ensures told { OnOk result (AreTold (work_of task.now.timings.items)
-            (dependents_of (trails self.old.dependents) m) (priority_in task.now)
-            (key_in self.old.service (work_of task.now.timings.items) (start_of starts.now))
-            self.old.left.items self.old.ready self.new.left.items self.new.ready) }
-        ensures dependents { OnOk result (self.new.dependents ≡ self.old.dependents) }
-        ensures service { OnOk result (self.new.service ≡ self.old.service) }
-    {
-        let mut at = self.dependents.first(m);
-        while at > 0 {
-            let link = self.dependents.link(at);
-            self.tell(task, starts, link.message)?;
-            at = link.next;
-        }
-        Ok(())
-    }
-
-    /// Message `m` waits for one thing less, and is ready where that was the last.
-    fn tell(&mut self, task: &Task, starts: &[u64], m: u32) -> Result<(), AllocError>
-        requires issued { HasIssue task.now.timings.items starts.now m }
-        requires count { length self.old.left.items ≡ length task.now.timings.items }
-        requires some { 1 ≤ left_of self.old.left.items m }
-        ensures left { OnOk result (self.new.left.items ≡ slice_set self.old.left.items (m - 1)
-            (left_of self.old.left.items m - 1)) }
-        ensures ready { OnOk result (left_of self.old.left.items m ≡ 1
-            → IsPermutation ((
-              priority_in task.now m,
-              (
-                key_in self.old.service (work_of task.now.timings.items)
-                    (start_of starts.now) m,
-                m,
-              ),
-            ) ∷ self.old.ready) self.new.ready) }
-        ensures waits { OnOk result (1 < left_of self.old.left.items m
-            → self.new.ready ≡ self.old.ready) }
-        ensures dependents { OnOk result (self.new.dependents ≡ self.old.dependents) }
-        ensures service { OnOk result (self.new.service ≡ self.old.service) }
-    {
-        let left = self.left[m as usize - 1] - 1;
-        self.left[m as usize - 1] = left;
-        if left > 0 {
+        let is_free = self.service.issue(task, m, &mut self.waits)?;
+        if !is_free {
             return Ok(());
         }
+        self.push(task, progress.starts.as_slice(), m)?;
+        Ok(())
+    }
+
+    /// Message `m` has finished: those that wait for it are let go.
+    pub fn finish(&mut self, task: &Task, starts: &[u64], m: u32) -> Result<(), AllocError>
+        requires number { IsNumber (work_of task.now.timings.items) m }
+        requires many { length self.old.waits.awaited ≡ length task.now.timings.items }
+        requires issued { All (HasIssue task.now.timings.items starts.now)
+            (waiting_for self.old.waits m) }
+        ensures waits { OnOk result (self.new.waits ≡ record {
+          awaited = slice_set self.old.waits.awaited (m - 1) [];
+          finished = slice_set self.old.waits.finished (m - 1) true;
+        }) }
+        ensures ready { OnOk result ((issued order : List ℕ)
+            → ((d : ℕ) → Contains (waiting_for self.old.waits m) d → Contains issued d)
+            → AreEach (IsFree issued self.old.waits) (order ++ ranked_in self.old.ready)
+            → AreEach (IsFree issued self.new.waits) (order ++ ranked_in self.new.ready)) }
+        ensures ranked { OnOk result (AreRanked (priority_in task.now)
+            (key_in self.old.service (work_of task.now.timings.items) (start_of starts.now))
+            self.old.ready → AreRanked (priority_in task.now)
+            (key_in self.old.service (work_of task.now.timings.items) (start_of starts.now))
+            self.new.ready) }
+        ensures service { OnOk result (self.new.service ≡ self.old.service) }
+    {
+        while let Some((waiter, is_free)) = self.waits.let_go(m) {
+            if is_free {
+                self.push(task, starts, waiter)?;
+            }
+        }
+        self.waits.finish(m);
+        Ok(())
+    }
+
+    /// Message `m` is ready.
+    fn push(&mut self, task: &Task, starts: &[u64], m: u32) -> Result<(), AllocError>
+        requires issued { HasIssue task.now.timings.items starts.now m }
+        ensures ready { OnOk result (IsPermutation ((
+          priority_in task.now m,
+          (
+            key_in self.old.service (work_of task.now.timings.items) (start_of starts.now) m,
+            m,
+          ),
+        ) ∷ self.old.ready) self.new.ready) }
+        ensures waits { OnOk result (self.new.waits ≡ self.old.waits) }
+        ensures service { OnOk result (self.new.service ≡ self.old.service) }
+    {
         let key = self.service.key(task, starts, m);
         self.ready.push(task.priority(m), key, m)
-    }
-}
-
-/// Each message waits for its needs too.
-fn add_needs(left: &mut Vec<u32>, needs: &Needs)
-    requires lengths { length left.old.items ≡ length needs.now }
-    requires one { (m : ℕ) → IsAmongFirst (length needs.now) m → left_of left.old.items m ≡ 1 }
-    ensures lengths { length left.new.items ≡ length needs.now }
-    ensures each { (m : ℕ) → IsAmongFirst (length needs.now) m
-        → left_of left.new.items m ≡ length (needs_of needs.now m) + 1 }
-{
-    for m in 1..needs.len() + 1 {
-        left[m as usize - 1] += needs.of(m).len() as u32;
     }
 }

@@ -17,6 +17,15 @@
 //!
 //! Affinities and spaces are numbered from 0, messages from 1, in the order in which they are
 //! given.
+//!
+//! A builder stands for its list of names and parents, a tree too, and a trace for the list of its
+//! messages. A refused call changes nothing. What is refused is refused for the first check that
+//! holds: `refusal_of` and `layout_refusal` have them in their order. No two cells share a place in
+//! the parcel of their owner, and every number below its size is the place of one of its cells:
+//! three laws say so.
+//!
+//! Tests: `test_worked/src/trees.rt`, `layouts.rt` and `parts.rt`; the sample hierarchy and its
+//! trace made by hand in `test_worked/src/building.rt`.
 #![tactic(auto)]
 
 mod cell;

@@ -9,6 +9,15 @@
 //!   messages join in the order of their numbers; `lists`: lists of lists, as needs are.
 //! - `refinement`: whether all pairs that one hierarchy orders are ordered by another one, with
 //!   `lowests`.
+//!
+//! Paths through the needs are exactly the paths through ordered pairs: who waits for its needs
+//! waits for each earlier message that excludes it. How few the needs are (`few`, `twice`) follows
+//! from which they are.
+//!
+//! Tests: `test_worked/src/worker_plans.rt` (`wait_for_their_needs`, `wait_for_few_of_many`),
+//! `refinements.rt` (`go_one_way_alone`). `test_slow/src/compared_plans.rt` compares the needs'
+//! paths and number, the least plan, the plans for k workers and their chains with plain slow
+//! programs over all pairs, on random traces.
 #![tactic(auto)]
 
 mod frontier;

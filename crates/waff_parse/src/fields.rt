@@ -1,20 +1,16 @@
-//! Records of a known number of fields.
+//! The fields of records, and of records of a known number of fields.
 
-ghost use Rattle.std.specs.Prelude.{◌≡◌, ◌<◌, Some, length, option_map};
-ghost use Rattle.csv.specs.Records.{field_at, fields_of};
+ghost use Rattle.std.specs.Prelude.{◌≡◌, option_map};
+ghost use Rattle.csv.specs.Records.{fields_of};
 ghost use Rattle.waff_parse.specs.Fields as fields;
 
 use csv::StringRecord;
 
-// The field at a place that a record has.
-fn field(row: &StringRecord, place: usize) -> &str
-    requires { place < length (fields_of row.now) }
-    ensures { field_at (fields_of row.now) place ≡ Some result.now }
+/// The field at a place of a record, empty where it has none there.
+pub fn field(row: &StringRecord, place: usize) -> &str
+    ensures { result.now ≡ fields.field_of (fields_of row.now) place }
 {
-    match row.get(place) {
-        Some(field) => field,
-        None => unreachable!(),
-    }
+    row.get(place).unwrap_or("")
 }
 
 /// The fields of a record, if it has two.
@@ -37,16 +33,6 @@ pub fn three_fields(row: &StringRecord) -> Option<(&str, &str, &str)>
     Some((field(row, 0), field(row, 1), field(row, 2)))
 }
 
-/// The fields of a record, if it has four.
-pub fn four_fields(row: &StringRecord) -> Option<(&str, &str, &str, &str)>
-    ensures { option_map fields.four_texts result ≡ fields.four_of (fields_of row.now) }
-{
-    if row.len() != 4 {
-        return None;
-    }
-    Some((field(row, 0), field(row, 1), field(row, 2), field(row, 3)))
-}
-
 /// The fields of a record, if it has five.
 pub fn five_fields(row: &StringRecord) -> Option<(&str, &str, &str, &str, &str)>
     ensures { option_map fields.five_texts result ≡ fields.five_of (fields_of row.now) }
@@ -60,22 +46,5 @@ pub fn five_fields(row: &StringRecord) -> Option<(&str, &str, &str, &str, &str)>
         field(row, 2),
         field(row, 3),
         field(row, 4),
-    ))
-}
-
-/// The fields of a record, if it has six.
-pub fn six_fields(row: &StringRecord) -> Option<(&str, &str, &str, &str, &str, &str)>
-    ensures { option_map fields.six_texts result ≡ fields.six_of (fields_of row.now) }
-{
-    if row.len() != 6 {
-        return None;
-    }
-    Some((
-        field(row, 0),
-        field(row, 1),
-        field(row, 2),
-        field(row, 3),
-        field(row, 4),
-        field(row, 5),
     ))
 }

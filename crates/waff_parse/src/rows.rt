@@ -31,11 +31,10 @@ fn is_not_text(kind: &ErrorKind) -> bool
 {
     match kind {
         ErrorKind::Utf8 { .. } => true,
-        ErrorKind::Io(_) => false,
-        ErrorKind::OutOfMemory => false,
-        ErrorKind::UnequalLengths { .. } => unreachable!(),
-        ErrorKind::Serialize(_) => unreachable!(),
-        ErrorKind::Deserialize { .. } => unreachable!(),
+        ErrorKind::Io(_) | ErrorKind::OutOfMemory => false,
+        ErrorKind::UnequalLengths { .. }
+        | ErrorKind::Serialize(_)
+        | ErrorKind::Deserialize { .. } => unreachable!(),
     }
 }
 

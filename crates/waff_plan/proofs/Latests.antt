@@ -1,11 +1,8 @@
 -- The latest of the messages that one thing or another holds of.
-use Rattle.std.proofs.Common.{◌≡◌, ◌⊎◌, ℕ, zero, suc, ◌+◌, ◌<◌, ◌≤◌, true, false, List, [], ◌∷◌, ◌++◌, Contains, Option, Some, None, arith, refl, sym, ◌∙◌, ap, subst, inl, inr, ⊎_elim}
-use Rattle.std.proofs.lemmas.Bool.{cond_both, cases_eq}
-use Rattle.std.specs.List.{range_with_len}
+use Rattle.std.proofs.Common.{◌≡◌, ◌⊎◌, ℕ, ◌<◌, ◌≤◌, true, false, List, [], ◌∷◌, ◌++◌, Contains, Option, Some, None, arith, refl, sym, ◌∙◌, ap, subst, inl, inr, ⊎_elim}
+use Rattle.std.proofs.lemmas.Bool.{cond_both}
 use Rattle.std.proofs.lemmas.Bool.Decides.{nat_tests}
 use Rattle.std.proofs.lemmas.List.Elements.{Contains-append_left, Contains-push, Contains-push_cases}
-use Rattle.waff_plan.proofs.Longest.{range_with_len_more}
-use Rattle.waff_plan.specs.Work.{IsAmongFirst}
 use Rattle.waff_plan.specs.Latest.{is_later, later_of, IsFound}
 use Rattle.waff_plan.specs.declared.latest.Latest.{Latest}
 
@@ -131,34 +128,3 @@ found_passed P finish noted m latest fails h =
       | inr last ↦ absurd (fails (subst P (sym last) new.1))
     ])
     h
-
-first_more : (n : ℕ) → range_with_len 1 (suc n) ≡ range_with_len 1 n ++ suc n ∷ []
-first_more n = ap (range_with_len 1) (let next : suc n ≡ n + 1 = omega arith in next) ∙ range_with_len_more 1 n (suc n) (omega arith)
-
--- the first n messages are those with these numbers
-pub first_from : (n i : ℕ) → IsAmongFirst n i → Contains (range_with_len 1 n) i
-first_from zero i up_to = absurd (omega (arith, up_to.from, up_to.to))
-first_from (suc n) i up_to =
-    subst (λ xs. Contains xs i) (sym (first_more n))
-    (elim (cases_eq i (suc n)) [
-      | inl last ↦ subst (Contains (range_with_len 1 n ++ suc n ∷ [])) (sym last) (Contains-push (range_with_len 1 n) (suc n))
-      | inr other ↦
-          Contains-append_left (range_with_len 1 n) (suc n ∷ []) i
-          (first_from n i (record { from = up_to.from; to = omega (arith, up_to.to, other) }))
-    ])
-
-pub first_to : (n i : ℕ) → Contains (range_with_len 1 n) i → IsAmongFirst n i
-first_to zero i there = absurd (omega (arith, there.1))
-first_to (suc n) i there =
-    elim (Contains-push_cases (range_with_len 1 n) (suc n) i
-    (subst (λ xs. Contains xs i) (first_more n) there)) [
-      | inl old ↦ let up_to = first_to n i old in record { from = up_to.from; to = omega (arith, up_to.to) }
-      | inr last ↦ record { from = omega (arith, last); to = omega (arith, last) }
-    ]
-
--- the latest of the first n messages of which P holds
-pub found_first : (P : ℕ → Type 0) (finish : ℕ → ℕ) (n : ℕ) (latest : Option Latest)
-    → IsFound (λ i. Contains (range_with_len 1 n) i × P i) finish latest → IsFound (λ i. IsAmongFirst n i × P i) finish latest
-found_first P finish n latest h =
-    found_same (λ i. Contains (range_with_len 1 n) i × P i) (λ i. IsAmongFirst n i × P i) finish latest
-    (λ i both. (first_to n i both.0, both.1)) (λ i both. (first_from n i both.0, both.1)) h

@@ -1,4 +1,5 @@
 pub mod Longest
+pub mod Exclusion
 pub mod Holding
 pub mod NoClients
 pub mod Chains
@@ -20,12 +21,13 @@ mod IssueLoop
 mod TurnLemmas
 pub mod Ticks
 pub mod Forward
-mod Latests
-mod Tables
-mod OrderKept
+pub mod Latests
+pub mod Tables
 pub mod Linkings
 mod Followings
+pub mod Noted
 mod StartedLinks
+mod Sequences
 pub mod Ratios
 pub mod ApartLaws
 pub mod Uniqueness

@@ -5,8 +5,9 @@ use Rattle.waff_model.specs.declared.message.Version.{Version}
 use Rattle.waff_model.specs.declared.message.Version.TheVariants.{V1, V2, V3}
 use Rattle.waff_assign.specs.Order.{IsOrdered}
 use Rattle.waff_plan.specs.Links.{IsLink}
-use Rattle.waff_plan.specs.Obeys.{EachRuns, FollowsEarlier, IsForward, IsLeast, Obeys}
+use Rattle.waff_plan.specs.Obeys.{EachRuns, FollowsEarlier, IsForward, IsLeast, Obeys, StartsIssued}
 use Rattle.waff_plan.specs.Order.{key_of}
+use Rattle.waff_plan.specs.ServesAs.{ObeysApart}
 use Rattle.waff_plan.specs.Serving.{served_before, started_before}
 use Rattle.waff_plan.specs.Timetable.{AreTimings}
 use Rattle.waff_plan.specs.Timing.{no_timing, work_of}
@@ -17,7 +18,7 @@ use Rattle.waff_plan.proofs.Forward.{timings_forward}
 use Rattle.waff_plan.proofs.IssuePlans.{least_by_key_is_one}
 use Rattle.waff_plan.proofs.Orders.{service_key}
 use Rattle.waff_plan.proofs.Places.{earlier_place, place_from, place_of}
-use Rattle.waff_plan.proofs.StartOrder.{IsStartedBefore_forward, least_again, served_starts, started_first}
+use Rattle.waff_plan.proofs.StartOrder.{IsStartedBefore_forward, least_again, served_apart, served_starts, started_first}
 use Rattle.waff_plan.proofs.Uniqueness.{least_is_one}
 
 -- the messages of a trace run
@@ -71,25 +72,39 @@ module _ (tree : List Node) (assigned : List ℕ) (timings : List Timing) (start
       least_again (served_before version tree assigned (work_of timings) start) (started_before version tree assigned start) (work_of timings) start
       (served_to_started version are least.obeys) (started_to_served version are least.obeys) least
 
-  -- messages have places in it
+  -- where no message starts before it is issued, messages have places in it
+  pub issued_forward : (version : Version) → AreTimings version timings → (version ≡ V3 → StartsIssued (work_of timings) start)
+      → IsForward (started_before version tree assigned start) (work_of timings)
+  issued_forward V1 are issued = timings_forward tree assigned timings (sym same) are.earlier
+  issued_forward V2 are issued = timings_forward tree assigned timings (sym same) are.earlier
+  issued_forward V3 are issued =
+      IsStartedBefore_forward tree assigned (work_of timings) (sym same) (each_runs V3 timings are) start (issued refl) are.earlier
+
   pub started_forward : (version : Version) → AreTimings version timings
       → (version ≡ V3 → Obeys (served_before version tree assigned (work_of timings) start) (work_of timings) start)
       → IsForward (started_before version tree assigned start) (work_of timings)
-  started_forward V1 are obeys = timings_forward tree assigned timings (sym same) are.earlier
-  started_forward V2 are obeys = timings_forward tree assigned timings (sym same) are.earlier
-  started_forward V3 are obeys =
-      IsStartedBefore_forward tree assigned (work_of timings) (sym same) (each_runs V3 timings are) start (obeys refl).issued are.earlier
+  started_forward version are obeys = issued_forward version are (λ clients. (obeys clients).issued)
+
+  -- a plan that obeys the order in which it serves messages obeys apart
+  pub served_obeys_apart : (version : Version) → AreTimings version timings
+      → (version ≡ V3 → Obeys (served_before version tree assigned (work_of timings) start) (work_of timings) start)
+      → version ≡ V3 → ObeysApart tree assigned (work_of timings) start
+  served_obeys_apart V1 are obeys clients = absurd (cc)
+  served_obeys_apart V2 are obeys clients = absurd (cc)
+  served_obeys_apart V3 are obeys clients = record {
+    issued = (obeys refl).issued;
+    apart = served_apart tree assigned (work_of timings) (sym same) (each_runs V3 timings are) start (obeys refl);
+  }
 
   -- what holds back a message has a lower place
-  pub lower_link : (version : Version) → AreTimings version timings
-      → (version ≡ V3 → Obeys (served_before version tree assigned (work_of timings) start) (work_of timings) start)
+  pub lower_link : (version : Version) → AreTimings version timings → (version ≡ V3 → StartsIssued (work_of timings) start)
       → (m : ℕ) (link : Option ℕ) → IsNumber (work_of timings) m → IsLink (started_before version tree assigned start) (work_of timings) start m link
       → MatchOption link (0 < place_in version (work_of timings) start m) (λ i. place_in version (work_of timings) start i < place_in version (work_of timings) start m)
-  lower_link V1 are obeys m None number is = number.from
-  lower_link V1 are obeys m (Some i) number is = elim is.0.one [ inl before ↦ before.earlier | inr follow ↦ (are.earlier i m follow).earlier ]
-  lower_link V2 are obeys m None number is = number.from
-  lower_link V2 are obeys m (Some i) number is = elim is.0.one [ inl before ↦ before.earlier | inr follow ↦ (are.earlier i m follow).earlier ]
-  lower_link V3 are obeys m None number is = place_from (work_of timings) start m number
-  lower_link V3 are obeys m (Some i) number is =
+  lower_link V1 are issued m None number is = number.from
+  lower_link V1 are issued m (Some i) number is = elim is.0.one [ inl before ↦ before.earlier | inr follow ↦ (are.earlier i m follow).earlier ]
+  lower_link V2 are issued m None number is = number.from
+  lower_link V2 are issued m (Some i) number is = elim is.0.one [ inl before ↦ before.earlier | inr follow ↦ (are.earlier i m follow).earlier ]
+  lower_link V3 are issued m None number is = place_from (work_of timings) start m number
+  lower_link V3 are issued m (Some i) number is =
       earlier_place (work_of timings) start i m number
-      (inl (started_first tree assigned (work_of timings) (sym same) (each_runs V3 timings are) start (obeys refl).issued are.earlier i m is.0.one))
+      (inl (started_first tree assigned (work_of timings) (sym same) (each_runs V3 timings are) start (issued refl) are.earlier i m is.0.one))

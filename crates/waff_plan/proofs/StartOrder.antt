@@ -1,15 +1,16 @@
 -- The order of starts: a client's messages rise in it, and what starts first goes forward in it.
-use Rattle.std.proofs.Common.{◌≡◌, ◌≢◌, ℕ, ◌<◌, ◌≤◌, ◌↔◌, inl, inr, List, length, Some, arith, ap}
+use Rattle.std.proofs.Common.{◌≡◌, ◌≢◌, ℕ, ◌<◌, ◌≤◌, ◌↔◌, ◌⊎◌, inl, inr, List, length, Some, arith, ap}
 use Rattle.std.proofs.lemmas.Bool.{cases_lt, cases_order}
 use Rattle.waff_model.specs.Tree.{Node, Excludes}
 use Rattle.waff_assign.specs.Order.{IsOrdered, Relation, affinity_of}
 use Rattle.waff_plan.specs.Apart.{AreApart}
 use Rattle.waff_plan.specs.Issues.{IsServedBefore}
-use Rattle.waff_plan.specs.Obeys.{EachRuns, FollowsEarlier, IsForward, IsLeast, IsLinked, Obeys, StartsIssued}
+use Rattle.waff_plan.specs.Obeys.{EachRuns, FollowsEarlier, IsAmong, IsForward, IsLeast, IsLinked, Obeys, StartsIssued}
 use Rattle.waff_plan.specs.ServesAs.{ObeysApart, ServesAs}
 use Rattle.waff_plan.specs.Serving.{IsStartedBefore}
 use Rattle.waff_plan.specs.Work.{Work, IsAmongFirst, IsNumber, finish_of}
 use Rattle.waff_plan.proofs.ApartLaws.{apart_where_finished, together_where_running, turned}
+use Rattle.waff_plan.proofs.Exclusion.{excludes_back}
 use Rattle.waff_plan.proofs.Holding.{followed-le-issue}
 use Rattle.waff_plan.proofs.IssueOrder.{one_is_issued_first}
 use Rattle.waff_plan.proofs.Orders.{precedes_forward}
@@ -22,32 +23,45 @@ least_again before other work start to from least = record {
   least = λ plan obeys m number. least.least plan (record { issued = obeys.issued; ordered = λ i j pair. obeys.ordered i j (to i j pair) }) m number;
 }
 
-turned_pair : (tree : List Node) (a b : ℕ) → Excludes tree a b → Excludes tree b a
-turned_pair tree a b (inl above) = inr above
-turned_pair tree a b (inr below) = inl below
-
 module _ (tree : List Node) (assigned : List ℕ) (work : Work) (same : length assigned ≡ work.count) (runs : EachRuns work) where
   number_of : (m : ℕ) → IsAmongFirst (length assigned) m → IsNumber work m
   number_of m among = record { from = among.from; to = omega (arith, among.to, same) }
 
-  -- of two messages that run apart the one that starts no later has finished when the other starts
-  pub apart_finish : (start : ℕ → ℕ) → AreApart (IsOrdered tree assigned) work start → (i j : ℕ) → i ≢ j → IsAmongFirst (length assigned) i
-      → IsAmongFirst (length assigned) j → Excludes tree (affinity_of assigned i) (affinity_of assigned j) → start i ≤ start j → finish_of work start i ≤ start j
-  apart_finish start apart i j other first second excludes sooner = elim (cases_lt (start j) (finish_of work start i)) [
+  -- of two messages one of which is among the first, where those run apart from all, the one that starts no later has finished when the
+  -- other starts
+  pub apart_finish_among : (start : ℕ → ℕ) (count : ℕ) → AreApart (IsAmong count (IsOrdered tree assigned)) work start → (i j : ℕ) → i ≢ j
+      → IsAmongFirst (length assigned) i → IsAmongFirst (length assigned) j → (i ≤ count) ⊎ (j ≤ count)
+      → Excludes tree (affinity_of assigned i) (affinity_of assigned j) → start i ≤ start j → finish_of work start i ≤ start j
+  apart_finish_among start count apart i j other first second among excludes sooner = elim (cases_lt (start j) (finish_of work start i)) [
     | inl early ↦
         let together = together_where_running work start i j sooner early (omega (arith, runs j (number_of j second))) in
         elim (cases_order i j) [
           | inl one ↦ absurd (other one)
           | inr (inl less) ↦
-              absurd (apart i j (record { ordered = record { from = first.from; earlier = less; to = second.to; excludes = excludes }; together = together }))
+              absurd (apart i j (record {
+                ordered = record {
+                  ordered = record { from = first.from; earlier = less; to = second.to; excludes = excludes };
+                  within = elim among [ inl one ↦ one | inr also ↦ (omega (arith, also, less)) ];
+                };
+                together = together;
+              }))
           | inr (inr more) ↦
               absurd (apart j i (record {
-                ordered = record { from = second.from; earlier = more; to = first.to; excludes = turned_pair tree (affinity_of assigned i) (affinity_of assigned j) excludes };
+                ordered = record {
+                  ordered = record { from = second.from; earlier = more; to = first.to; excludes = excludes_back tree (affinity_of assigned i) (affinity_of assigned j) excludes };
+                  within = elim among [ inl one ↦ (omega (arith, one, more)) | inr also ↦ also ];
+                };
                 together = turned work start i j together;
               }))
         ]
     | inr done ↦ done
   ]
+
+  pub apart_finish : (start : ℕ → ℕ) → AreApart (IsOrdered tree assigned) work start → (i j : ℕ) → i ≢ j → IsAmongFirst (length assigned) i
+      → IsAmongFirst (length assigned) j → Excludes tree (affinity_of assigned i) (affinity_of assigned j) → start i ≤ start j → finish_of work start i ≤ start j
+  apart_finish start apart i j other first second excludes sooner =
+      apart_finish_among start (length assigned) (λ i j pair. apart i j (record { ordered = pair.ordered.ordered; together = pair.together })) i j other first second
+      (inl first.to) excludes sooner
 
   apart_started : (start : ℕ → ℕ) → AreApart (IsOrdered tree assigned) work start → (i j : ℕ) → IsStartedBefore tree assigned start i j
       → finish_of work start i ≤ start j
@@ -79,7 +93,7 @@ module _ (tree : List Node) (assigned : List ℕ) (work : Work) (same : length a
         | inr (inr more) ↦ elim (cases_lt (other i) (other j)) [
           | inl less ↦ less
           | inr late ↦
-              let excludes = turned_pair tree (affinity_of assigned i) (affinity_of assigned j) before.excludes in
+              let excludes = excludes_back tree (affinity_of assigned i) (affinity_of assigned j) before.excludes in
               let done = apart_finish other serves.other_obeys.apart j i (λ one. omega (arith, more, one)) before.second before.first excludes late in
               let first : other j < other i = omega (arith, done, runs j (number_of j before.second)) in
               let turned_first = (serves.same j i (record { from = before.second.from; earlier = more; to = before.first.to; excludes = excludes })).1 first in
@@ -103,7 +117,7 @@ module _ (tree : List Node) (assigned : List ℕ) (work : Work) (same : length a
               first = second;
               second = first;
               precedes = issued;
-              excludes = turned_pair tree (affinity_of assigned i) (affinity_of assigned j) ordered.excludes;
+              excludes = excludes_back tree (affinity_of assigned i) (affinity_of assigned j) ordered.excludes;
             })) (turned work start i j pair.together)
       ]
 
@@ -131,7 +145,7 @@ module _ (tree : List Node) (assigned : List ℕ) (work : Work) (same : length a
                   first = second;
                   second = first;
                   precedes = issued;
-                  excludes = turned_pair tree (affinity_of assigned i) (affinity_of assigned j) before.excludes;
+                  excludes = excludes_back tree (affinity_of assigned i) (affinity_of assigned j) before.excludes;
                 }) in
                 absurd (omega (arith, late, before.precedes, runs j second))
           ];

@@ -1,19 +1,21 @@
 -- The links of a plan in the order of starts, one message after another.
-use Rattle.std.proofs.Common.{◌≡◌, ◌≢◌, true, false, refl, ℕ, ◌+◌, ◌-◌, ◌<◌, ◌≤◌, List, length, get_or, set, take, Contains, Option, None, arith, sym, ◌∙◌, ap, subst, inl, inr}
+use Rattle.std.proofs.Common.{◌≡◌, ◌≢◌, true, false, refl, ℕ, ◌+◌, ◌-◌, ◌<◌, ◌≤◌, List, length, get_or, set, Contains, Option, None, arith, sym, ◌∙◌, ap, subst, inl, inr}
 use Rattle.std.proofs.lemmas.Bool.{cases_lt, cases_eq, false≢true}
-use Rattle.std.proofs.lemmas.List.{get_or-map, get_or-set_other, get_or-set_same, get_or-take, get_or_default, length-map, length-take}
+use Rattle.std.proofs.lemmas.List.{get_or-set_other, get_or-set_same, get_or_default}
 use Rattle.waff_model.specs.Tree.{Node, Excludes}
 use Rattle.waff_model.specs.Versions.{has_clients}
 use Rattle.waff_model.specs.declared.message.Version.{Version}
 use Rattle.waff_model.specs.declared.message.Version.TheVariants.{V1, V2, V3}
 use Rattle.waff_assign.specs.Order.{IsOrdered, Relation, affinity_of}
 use Rattle.waff_plan.specs.ByStart.{AreByStart, started_at, started_of}
-use Rattle.waff_plan.specs.Obeys.{EachRuns, Obeys}
-use Rattle.waff_plan.specs.Serving.{chain_key, served_before, started_before}
+use Rattle.waff_plan.specs.Obeys.{EachRuns}
+use Rattle.waff_plan.specs.ServesAs.{ObeysApart}
+use Rattle.waff_plan.specs.Serving.{chain_key, started_before}
 use Rattle.waff_plan.specs.Work.{Work, IsAmongFirst, IsNumber}
-use Rattle.waff_plan.specs.declared.apart.Started.{Started}
-use Rattle.waff_plan.proofs.ApartLaws.{noted_earlier, noted_number, noted_other, number_here, numbers_to}
-use Rattle.waff_plan.proofs.StartOrder.{apart_finish, served_apart}
+use Rattle.waff_plan.specs.declared.sequence.Started.{Started}
+use Rattle.waff_plan.proofs.ApartLaws.{number_here}
+use Rattle.waff_plan.proofs.Noted.{AreNoted}
+use Rattle.waff_plan.proofs.StartOrder.{apart_finish}
 
 -- the links of the messages at the first places
 abbrev pub AreFirstLinks : (ℕ → Option ℕ → Type 0) → List Started → List (Option ℕ) → ℕ → Type 0
@@ -36,7 +38,7 @@ module _ (tree : List Node) (assigned : List ℕ) (work : Work) (same : length a
     sooner = λ i m pair. pair.earlier;
   }
 
-  pub sorts : (version : Version) (start : ℕ → ℕ) → EachRuns work → (version ≡ V3 → Obeys (served_before version tree assigned work start) work start)
+  pub sorts : (version : Version) (start : ℕ → ℕ) → EachRuns work → (version ≡ V3 → ObeysApart tree assigned work start)
       → Sorts tree assigned work (chain_key version start) (started_before version tree assigned start)
   sorts V1 start runs obeys = sorts_numbers
   sorts V2 start runs obeys = sorts_numbers
@@ -44,7 +46,7 @@ module _ (tree : List Node) (assigned : List ℕ) (work : Work) (same : length a
     to = λ i m first second other excludes no_later.
         let one : IsAmongFirst (length assigned) i = record { from = first.from; to = omega (arith, first.to, same) } in
         let two : IsAmongFirst (length assigned) m = record { from = second.from; to = omega (arith, second.to, same) } in
-        let done = apart_finish tree assigned work same runs start (served_apart tree assigned work same runs start (obeys refl)) i m other one two excludes no_later in
+        let done = apart_finish tree assigned work same runs start (obeys refl).apart i m other one two excludes no_later in
         record { first = one; second = two; precedes = omega (arith, done, runs i first); excludes = excludes };
     number = λ i m pair. record { from = pair.first.from; to = omega (arith, pair.first.to, same) };
     excludes = λ i m pair. pair.excludes;
@@ -67,43 +69,38 @@ module _ (work : Work) (start : ℕ → ℕ) (started : List Started) (are : Are
   abbrev nobody : Started
   nobody = record { start = 0; number = 0 }
 
-  -- a message at one of the first places
-  first_there : (p q : ℕ) → q < p → p ≤ length started → Contains (numbers_to started p) (started_at started q).number
-  first_there p q less within =
-      let number = λ (m : Started). m.number in
-      let short : q < length (take p started) = omega (arith, less, within, length-take p started) in (
-        q,
-        omega (arith, short, length-map (take p started) number),
-        get_or-map number (take p started) q nobody (started_at started q).number short ∙ ap number (get_or-take p started q nobody less),
-      )
-
-  place_of_number : (m : ℕ) → IsNumber work m → (p : ℕ) × (p < length started) × ((started_at started p).number ≡ m)
+  pub place_of_number : (m : ℕ) → IsNumber work m → (p : ℕ) × (p < length started) × ((started_at started p).number ≡ m)
   place_of_number m number =
       let there = are.each m number in
       (there.0, there.1, ap (λ (x : Started). x.number) (get_or_default started there.0 nobody (started_of start m) there.1 ∙ there.2))
 
   -- a message at a place starts no later than one at a later place
-  starts_sooner : (p q : ℕ) → q ≤ p → p < length started → start (started_at started q).number ≤ start (started_at started p).number
+  pub starts_sooner : (p q : ℕ) → q ≤ p → p < length started → start (started_at started q).number ≤ start (started_at started p).number
   starts_sooner p q less within =
       let one = (are.only p nobody within).start_is in
       let other = (are.only q nobody (omega (arith, less, within))).start_is in
       omega (arith, are.rising q p less within, one, other)
 
-  module _ (tree : List Node) (assigned : List ℕ) (before : Relation) (sorts : Sorts tree assigned work start before) (p : ℕ) (within : p < length started) where
+  module _ (tree : List Node) (assigned : List ℕ) (before : Relation) (sorts : Sorts tree assigned work start before) (p : ℕ) (within : p < length started) (noted : List ℕ)
+      (are_noted : AreNoted started (λ i. Unit {0}) p noted) where
     abbrev here : ℕ
     here = (started_at started p).number
 
     -- of the messages that exclude it those that stand before it are before it
-    pub noted_before : (i : ℕ) → Contains (numbers_to started p) i × Excludes tree (affinity_of assigned i) (affinity_of assigned here) → before i here
+    pub noted_before : (i : ℕ) → Contains noted i × Excludes tree (affinity_of assigned i) (affinity_of assigned here) → before i here
     noted_before i both =
-        sorts.to i here (noted_number work start started are p i both.0) (number_here work start started are p within)
-        (noted_other work start started are p i within both.0) both.1 (noted_earlier work start started are p i within both.0)
+        let at = are_noted.each i both.0 in
+        subst (λ k. Excludes tree (affinity_of assigned k) (affinity_of assigned here) → before k here) at.2
+        (λ excludes.
+        sorts.to (started_at started at.0).number here (number_here work start started are at.0 (omega (arith, at.1, within))) (number_here work start started are p within)
+        (are.once at.0 p at.1 within) excludes (starts_sooner p at.0 (omega (arith, at.1)) within))
+        both.1
 
-    pub before_noted : (i : ℕ) → before i here → Contains (numbers_to started p) i × Excludes tree (affinity_of assigned i) (affinity_of assigned here)
+    pub before_noted : (i : ℕ) → before i here → Contains noted i × Excludes tree (affinity_of assigned i) (affinity_of assigned here)
     before_noted i pair =
         let place = place_of_number i (sorts.number i here pair) in
         elim (cases_lt place.0 p) [
-          | inl less ↦ (subst (Contains (numbers_to started p)) place.2 (first_there p place.0 less (omega (arith, within))), sorts.excludes i here pair)
+          | inl less ↦ (subst (Contains noted) place.2 (are_noted.all place.0 less tt), sorts.excludes i here pair)
           | inr more ↦
               let later : start here ≤ start i = subst (λ n. start here ≤ start n) place.2 (starts_sooner place.0 p more place.1) in
               absurd (omega (arith, later, sorts.sooner i here pair))

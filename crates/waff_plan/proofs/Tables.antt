@@ -1,6 +1,5 @@
 -- The tables by places: which messages their entries speak of.
 use Rattle.std.proofs.Common.{◌≡◌, ◌⊎◌, ℕ, suc, ◌+◌, ◌-◌, ◌<◌, ◌≤◌, inl, inr, List, [], ◌∷◌, length, get_or, set, drop, replicate, All, Contains, ◌++◌, Option, Some, None, option_map, IfSome, arith, refl, sym, ◌∙◌, ap, subst}
-use Rattle.std.specs.List.{range_with_len}
 use Rattle.std.specs.Prelude.{slice_range}
 use Rattle.std.proofs.lemmas.Bool.{cases_eq, cases_lt}
 use Rattle.std.proofs.lemmas.List.{get_or-set_same, get_or-set_other, get_or_past, get_or-replicate, get_or-take, get_or-drop, length-replicate, length-take-le, length-drop}
@@ -16,7 +15,7 @@ use Rattle.waff_plan.specs.Latest.{later_of, latest_order, IsFound}
 use Rattle.waff_plan.specs.Table.{IsLatestAt, AreStanding, LatestTable, IsTable, message_span, AreOver, IsLast, IsLatestMeeting, IsLatestExcluding}
 use Rattle.waff_plan.specs.declared.last.Placed.{Placed}
 use Rattle.waff_plan.specs.declared.latest.Latest.{Latest}
-use Rattle.waff_plan.proofs.Latests.{first_to, found_again, found_either, found_first, found_noted, found_passed, found_same}
+use Rattle.waff_plan.proofs.Latests.{found_again, found_either, found_noted, found_passed, found_same}
 
 -- where none is noted none is found
 pub found_none : (P : ℕ → Type 0) (finish : ℕ → ℕ) (latest : Option Latest) → latest ≡ None → IsFound (λ i. Contains [] i × P i) finish latest
@@ -197,24 +196,6 @@ pub found_noted_at : (tree : List Node) (spans : List Span) (assigned : List ℕ
 found_noted_at tree spans assigned finish noted m a table latest nested known among number is h answer =
     let known_m : affinity_of assigned m < length tree = known (m - 1) 0 (omega (arith, number.from, number.to)) in
     rw is at (meeting_excludes tree spans assigned finish noted a latest nested known among (rw is known_m) (answer spans assigned finish noted h))
-
--- of the first n messages the latest whose affinity excludes a
-abbrev pub IsLatestOfFirst : List Node → List ℕ → (ℕ → ℕ) → ℕ → ℕ → Option Latest → Type 0
-IsLatestOfFirst tree assigned finish n a latest =
-    IsFound (λ i. IsAmongFirst n i × Excludes tree (affinity_of assigned i) a) finish latest
-
--- the latest of the first n messages that message m waits for
-pub found_at : (tree : List Node) (spans : List Span) (assigned : List ℕ) (finish : ℕ → ℕ) (n m a : ℕ) (table : LatestTable) (latest : Option Latest)
-    → AreNested tree spans → All (λ a. a < length tree) assigned → n < m → m ≤ length assigned
-    → a ≡ affinity_of assigned m → IsTable spans assigned finish (range_with_len 1 n) table
-    → ((others : List Span) (assigned : List ℕ) (finish : ℕ → ℕ) (noted : List ℕ) → IsTable others assigned finish noted table
-    → IsLatestMeeting others assigned finish noted (span_at spans a) latest)
-    → IsLatestOfFirst tree assigned finish n (affinity_of assigned m) latest
-found_at tree spans assigned finish n m a table latest nested known lt to is h answer =
-    found_first (λ i. Excludes tree (affinity_of assigned i) (affinity_of assigned m)) finish n latest
-    (found_noted_at tree spans assigned finish (range_with_len 1 n) m a table latest nested known
-    (λ i there. let up_to = first_to n i there in record { from = up_to.from; to = omega (arith, up_to.to) })
-    (record { from = omega (arith, lt); to = to }) is h answer)
 
 -- with the same finishes the table is the same
 pub table_again : (spans : List Span) (assigned : List ℕ) (finish again : ℕ → ℕ) (noted : List ℕ) (table : LatestTable)

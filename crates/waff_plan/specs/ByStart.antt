@@ -1,10 +1,9 @@
--- Messages by their starts, to find two that run at a common tick.
-use Rattle.std.specs.Prelude.{◌≡◌, ◌≢◌, ℕ, ◌<◌, ◌≤◌, nat_le, if◌then◌else◌, List, length, map, All, Contains}
+-- Messages one after another, by their starts or by another key.
+use Rattle.std.specs.Prelude.{◌≡◌, ◌≢◌, ℕ, ◌<◌, ◌≤◌, List, length, map, All, Contains}
 use Rattle.std.specs.List.{range_with_len}
 use Rattle.std.specs.Prelude.{Option, Some, None, slice_index_or}
-use Rattle.waff_plan.specs.Work.{Work, IsNumber, finish_of}
-use Rattle.waff_plan.specs.declared.apart.Started.{Started}
-use Rattle.waff_plan.specs.declared.latest.Latest.{Latest}
+use Rattle.waff_plan.specs.Work.{Work, IsAmongFirst, IsNumber}
+use Rattle.waff_plan.specs.declared.sequence.Started.{Started}
 
 -- message n with its start
 abbrev pub started_of : (ℕ → ℕ) → ℕ → Started
@@ -34,11 +33,7 @@ pub record AreByStart (work : Work) (start : ℕ → ℕ) (started : List Starte
   pub rising : (p q : ℕ) → p ≤ q → q < length started
       → (started_at started p).start ≤ (started_at started q).start
 
--- the finish of a message of the first `count`, and 0 of the others
-abbrev pub first_finish : Work → (ℕ → ℕ) → ℕ → ℕ → ℕ
-first_finish work start count i = if nat_le i count then finish_of work start i else 0
-
--- message m runs when it starts, and the other message, where there is one, has not finished by then
-abbrev pub MeetsAtStart : Work → (ℕ → ℕ) → ℕ → Option Latest → Type 0
-MeetsAtStart work start m None = ⊥
-MeetsAtStart work start m (Some other) = (start m < finish_of work start m) × (start m < other.finish)
+-- messages of so many, as many as there are
+pub record AreMessages (count : ℕ) (sequence : List Started) : Type 0 where
+  pub long : length sequence ≡ count
+  pub number : (p : ℕ) → p < length sequence → IsAmongFirst count (started_at sequence p).number

@@ -8,6 +8,7 @@ pub mod Turns
 pub mod AtOnce
 pub mod Apart
 pub mod ByStart
+pub mod Keeps
 pub mod Chain
 pub mod Workers
 pub mod Laws

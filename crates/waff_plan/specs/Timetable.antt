@@ -11,7 +11,7 @@ use Rattle.waff_model.specs.declared.limits.TheConstants.{MAX_TICK}
 use Rattle.waff_plan.specs.Clients.{one_before}
 use Rattle.waff_plan.specs.Obeys.{FollowsEarlier, FollowsNone, FollowsOnce}
 use Rattle.waff_plan.specs.Work.{Work}
-use Rattle.waff_plan.specs.Timing.{IsTiming, work_of, start_of}
+use Rattle.waff_plan.specs.Timing.{IsTiming, start_of, timing_of, work_of}
 use Rattle.waff_plan.specs.declared.timing.Timing.{Timing}
 
 -- the version of the plan's trace, and the timings and starts of its messages
@@ -48,6 +48,23 @@ abbrev pub with_start : Timetable → ℕ → ℕ → Timetable
 with_start plan n start = record {
   version = plan.version;
   timings = plan.timings;
+  starts = slice_set plan.starts (n - 1) start;
+}
+
+-- the timing with another cost
+abbrev pub with_cost : Timing → ℕ → Timing
+with_cost timing cost = record {
+  cost = cost;
+  floor = timing.floor;
+  follows = timing.follows;
+  think = timing.think;
+}
+
+-- the plan in which message n starts at this tick and runs for this long, and the others do as they did
+abbrev pub with_turn : Timetable → ℕ → ℕ → ℕ → Timetable
+with_turn plan n start cost = record {
+  version = plan.version;
+  timings = slice_set plan.timings (n - 1) (with_cost (timing_of plan.timings n) cost);
   starts = slice_set plan.starts (n - 1) start;
 }
 

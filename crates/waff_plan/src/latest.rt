@@ -10,7 +10,7 @@ use waff_model::spans::Later;
 
 /// A message with its finish.
 #[derive(Clone, Copy)]
-pub(crate) struct Latest {
+pub struct Latest {
     pub finish: u64,
     pub number: u32,
 }

@@ -1,9 +1,10 @@
 //! The unlimited plan of a trace, its printed chain, and the laws of plans.
 //!
-//! A plan gives each message a start, in ticks; it obeys where a message starts when all earlier
-//! messages that exclude it have finished, and not before its release. The unlimited plan is the
-//! least that obeys, message by message. Its chain shows that no shorter plan obeys: messages that
-//! wait for one another, whose first release and costs add up to the length.
+//! A plan gives each message a start, in ticks; it obeys where a message starts when all messages
+//! that exclude it and are served before it have finished, and not before its issue. Served first is
+//! what comes first in the trace, or where messages are of clients what is issued first. The
+//! unlimited plan is the least that obeys, message by message. Its chain shows that no shorter plan
+//! obeys: messages that wait for one another, whose first release and costs add up to the length.
 //! The planner walks over the messages once, with two tables by place. A message notes its finish for
 //! all places of its span, and it stands at its first place; so the latest message that excludes
 //! another is found in the two tables. Places are cut into blocks of 64: a span that holds a whole
@@ -13,13 +14,26 @@
 //! - `unlimited`: the unlimited plan, and its links. It takes messages in `turns`: by number, or
 //!   where they are of clients by issue, over `followers` and `due`.
 //! - `table`, over `last`: the latest message that excludes another, by spans in preorder.
-//! - `printed`, over `links` and `linked`: the printed chain; `waited`: what messages waited for; both
-//!   over `waits`; `totals`: what the summary of a plan tells.
-//! - `ordered`: whether a plan keeps the order of the messages; `apart`: whether it has two that run
-//!   at a common tick though they exclude each other.
+//! - `sequence`: the messages of a plan one after another, by number or by start.
+//! - `printed`, over `linked`: the printed chain; `waited`: what messages waited for; both over
+//!   `waits`; `totals`: what the summary of a plan tells.
+//! - `ordered`: whether of the messages of a sequence the later wait for the earlier, and by number
+//!   whether a plan keeps the order; `apart`: by start, whether it has two that run at a common
+//!   tick though they exclude each other.
 //! - `lower_bound`: a length below which no plan obeys, in whatever order, and what it comes of; over `peak`.
+//! - `workers`: how many workers there are.
 //! - `laws`: what holds of all plans; `unique`: that the definitions leave no choice; `issue_laws`: of
 //!   plans in the order in which clients issue messages; `start_laws`: in the order of their starts.
+//!
+//! The unlimited plan obeys, and in every plan that obeys its order each message starts at the same
+//! tick or later. The order is that of the trace, and in version 3 that in which the plan issues
+//! messages. The chain is the printed chain of the plan given, with its cost and release; of a
+//! trace with clients the release counts the think times within the chain too. Of the unlimited
+//! plan the chain's release plus its cost is the length, and of every chain that is at most the
+//! length of every plan that obeys. No plan for as many workers is shorter than `lower_bound`, in
+//! whatever order it serves.
+//!
+//! Tests: `test_worked/src/plans.rt`.
 #![tactic(auto)]
 
 pub mod apart;
@@ -30,12 +44,12 @@ mod last;
 mod latest;
 pub mod laws;
 mod linked;
-pub mod links;
 pub mod lower_bound;
 pub mod ordered;
 pub mod peak;
 mod planned;
 pub mod printed;
+mod sequence;
 pub mod start_laws;
 mod table;
 mod timetable;
@@ -46,11 +60,16 @@ pub mod unique;
 pub mod unlimited;
 pub mod waited;
 mod waits;
+mod workers;
 
 pub use due::{Due, NEVER};
+pub use latest::Latest;
 pub use linked::Chain;
 pub use peak::Peak;
 pub use planned::Planned;
+pub use sequence::{Started, by_tick};
+pub use table::Table;
 pub use timetable::Plan;
 pub use timing::{Timing, timings};
 pub use totals::Totals;
+pub use workers::Workers;

@@ -1,16 +1,43 @@
-//! Whether a plan keeps the order of the messages, or that of the first ones with all later ones.
+//! Whether of the messages of a plan that exclude each other, one after another in some sequence,
+//! the later start when the earlier have finished.
 
-ghost use Rattle.std.specs.Prelude.{◌≡◌, ◌<◌, ◌≤◌, ◌↔◌, length, All, IfOk, IfSome, IsTrue};
+ghost use Rattle.std.specs.Prelude.{◌≡◌, ◌<◌, ◌≤◌, ◌↔◌, ℕ, List, length, option_map, All, None};
+ghost use Rattle.std.specs.Prelude.{IfOk, IfSome, IsTrue};
+ghost use Rattle.waff_model.specs.declared.preorder.Span.{Span};
 ghost use Rattle.waff_assign.specs.Order.{IsOrdered};
+ghost use Rattle.waff_plan.specs.ByStart.{AreMessages, walk_of};
+ghost use Rattle.waff_plan.specs.Keeps.{KeepsPairs};
 ghost use Rattle.waff_plan.specs.Obeys.{IsAmong, KeepsOrder};
+ghost use Rattle.waff_plan.specs.Table.{IsLatestMeeting, IsTable};
 ghost use Rattle.waff_plan.specs.Timetable.{work_in, starts_in};
 
 use crate::Plan;
 use crate::latest::Latest;
+use crate::sequence::{Started, number_at};
 use crate::table::Table;
 use std::alloc::{AllocError, Global};
 use waff_assign::Assigned;
-use waff_model::Tree;
+use waff_model::{Span, Tree};
+
+/// Which pairs of messages are looked at, by the numbers of the two.
+#[derive(Clone, Copy)]
+pub(crate) struct Pairs {
+    /// The first number of the earlier one.
+    pub from: u32,
+    /// Its last number.
+    pub to: u32,
+    /// The last number of the later one.
+    pub last: u32,
+}
+
+impl Pairs {
+    /// Whether message `m` may be the earlier one.
+    fn notes(&self, m: u32) -> bool
+        ensures { IsTrue result ↔ (self.now.from ≤ m) × (m ≤ self.now.to) }
+    {
+        self.from <= m && m <= self.to
+    }
+}
 
 /// Whether each message starts only when every earlier one of the first `count` that excludes it
 /// has finished. Each message is looked at once, by the span of its affinity.
@@ -27,19 +54,61 @@ pub fn keeps_order(
         ↔ KeepsOrder (IsAmong count (IsOrdered tree.now assigned.now))
         (work_in plan.now) (starts_in plan.now)) }
 {
+    let pairs = Pairs {
+        from: 1,
+        to: count,
+        last: plan.len(),
+    };
+    keeps(alloc, tree, assigned, plan, &None, pairs)
+}
+
+/// Whether of each of these pairs in a sequence of the messages the later starts only when the
+/// earlier has finished, where the two exclude each other. Each message is looked at once, by the
+/// span of its affinity, with the latest of those that were noted before it.
+pub(crate) fn keeps(
+    alloc: Global,
+    tree: &Tree,
+    assigned: &Assigned,
+    plan: &Plan,
+    sequence: &Option<Vec<Started>>,
+    pairs: Pairs,
+) -> Result<bool, AllocError>
+    requires lengths { length plan.now.timings ≡ length assigned.now }
+    requires known { All (λ a. a < length tree.now) assigned.now }
+    requires sequence { AreMessages (length plan.now.timings)
+        (walk_of (length plan.now.timings) (option_map (λ list. list.items) sequence.now)) }
+    ensures { IfOk result (λ kept. IsTrue kept
+        ↔ KeepsPairs tree.now assigned.now (work_in plan.now) (starts_in plan.now)
+        (walk_of (length plan.now.timings) (option_map (λ list. list.items) sequence.now)) pairs) }
+{
     let spans = tree.spans();
     let mut table = Table::new(alloc, tree.len() as usize)?;
-    for m in 1..assigned.len() + 1 {
+    for place in 0..plan.len() {
+        let m = number_at(sequence, place);
         let span = spans[assigned.of(m).0 as usize];
-        if !is_finished_by(table.latest(span), plan.start(m)) {
+        if !is_finished_by(latest_for(&table, span, m, pairs.last), plan.start(m)) {
             return Ok(false);
         }
-        if m <= count {
+        if pairs.notes(m) {
             let finish = plan.finish(m);
             table.note(span, Latest { finish, number: m });
         }
     }
     Ok(true)
+}
+
+/// The latest message that excludes the one, of number `m`, that has this span, where `m` is one of
+/// the first `last`.
+fn latest_for(table: &Table, span: Span, m: u32, last: u32) -> Option<Latest>
+    requires forward { span.first < span.end }
+    requires within { span.end ≤ length table.now.own }
+    ensures latest { m ≤ last
+        → (spans : List Span) (assigned : List ℕ) (finish : ℕ → ℕ) (noted : List ℕ)
+        → IsTable spans assigned finish noted table.now
+        → IsLatestMeeting spans assigned finish noted span result }
+    ensures none { last < m → result ≡ None }
+{
+    if m <= last { table.latest(span) } else { None }
 }
 
 /// Whether the message, where there is one, has finished by a tick.

@@ -15,7 +15,7 @@ use waff_model::spans::{Later, Spread, Standing};
 /// The messages that are noted. One whose affinity is at or above another's is noted at the first place of
 /// that one, and one whose affinity is at or below it stands at a place of its span.
 #[derive(Drop)]
-pub(crate) struct Table {
+pub struct Table {
     own: Standing<Found>,
     over: Spread<Found>,
     /// The latest of all, which often excludes the next message.

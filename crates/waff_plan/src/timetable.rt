@@ -2,9 +2,9 @@
 
 ghost use Rattle.std.specs.Prelude.{◌≡◌, ◌+◌, ◌^◌, ◌<◌, ◌≤◌, length, replicate, All, IfOk};
 ghost use Rattle.waff_plan.specs.Work.{IsAmongFirst, finish_of, issue_of, length_of, total_of};
-ghost use Rattle.waff_model.specs.declared.limits.TheConstants.{MAX_THINK};
+ghost use Rattle.waff_model.specs.declared.limits.TheConstants.{MAX_COST, MAX_THINK};
 ghost use Rattle.waff_plan.specs.Timing.{timing_of};
-ghost use Rattle.waff_plan.specs.Timetable.{with_start, work_in, starts_in};
+ghost use Rattle.waff_plan.specs.Timetable.{with_start, with_turn, work_in, starts_in};
 
 use crate::Timing;
 use crate::timing::timings;
@@ -86,7 +86,7 @@ impl Plan {
     }
 
     /// The plan of the trace in which each message starts at tick 0.
-    pub(crate) fn unstarted(alloc: Global, trace: &Trace) -> Result<Plan, AllocError>
+    pub fn unstarted(alloc: Global, trace: &Trace) -> Result<Plan, AllocError>
         ensures version { IfOk result (λ plan. plan.version ≡ trace.now.version) }
         ensures timings { IfOk result (λ plan. plan.timings ≡ timings_of trace.now.messages) }
     {
@@ -104,11 +104,30 @@ impl Plan {
         self.starts[n as usize - 1] = start;
     }
 
+    /// Message `n` starts at this tick and runs for this long.
+    pub fn set_turn(&mut self, n: u32, start: u64, cost: u32)
+        requires number { IsAmongFirst (length self.old.timings) n }
+        requires printable { start ≤ MAX_TICK }
+        requires some_cost { 1 ≤ cost }
+        requires cost { cost ≤ MAX_COST }
+        ensures { self.new ≡ with_turn self.old n start cost }
+    {
+        self.starts[n as usize - 1] = start;
+        self.timings[n as usize - 1].cost = cost;
+    }
+
     /// The timings of its messages.
     pub(crate) fn timings(&self) -> &[Timing]
         ensures { result.now ≡ self.now.timings }
     {
         self.timings.as_slice()
+    }
+
+    /// The starts of its messages.
+    pub(crate) fn starts(&self) -> &[u64]
+        ensures { result.now ≡ self.now.starts }
+    {
+        self.starts.as_slice()
     }
 
     /// The version of its trace.

@@ -4,15 +4,15 @@ ghost use Rattle.std.specs.Prelude.{◌≡◌, ◌<◌, length, All, IfOk};
 ghost use Rattle.waff_model.specs.declared.message.Version.TheVariants.{V3};
 ghost use Rattle.waff_plan.specs.Latest.{later_of};
 ghost use Rattle.waff_plan.specs.Links.{followed_of, link_of};
-ghost use Rattle.waff_plan.specs.Obeys.{Obeys};
-ghost use Rattle.waff_plan.specs.Serving.{served_in, started_in};
+ghost use Rattle.waff_plan.specs.ServesAs.{ObeysApart};
+ghost use Rattle.waff_plan.specs.Serving.{started_in};
 ghost use Rattle.waff_plan.specs.Timetable.{work_in, starts_in};
 ghost use Rattle.waff_plan.specs.Waits.{AreWaits, wait_of};
 ghost use Rattle.waff_plan.specs.Work.{IsNumber};
 
 use crate::Plan;
-use crate::apart::{in_order, number_at};
 use crate::latest::{Latest, is_later};
+use crate::sequence::{in_order, number_at};
 use crate::table::Table;
 use std::alloc::{AllocError, Global};
 use waff_assign::Assigned;
@@ -27,7 +27,7 @@ pub(crate) enum Since {
     Issue,
 }
 
-/// For each message the one that it waited for. A plan of a trace with clients has to obey.
+/// For each message the one that it waited for. A plan of a trace with clients has to obey in some order.
 pub(crate) fn waits(
     alloc: Global,
     tree: &Tree,
@@ -37,7 +37,7 @@ pub(crate) fn waits(
 ) -> Result<Vec<Option<u32>>, AllocError>
     requires lengths { length plan.now.timings ≡ length assigned.now }
     requires known { All (λ a. a < length tree.now) assigned.now }
-    requires served { plan.now.version ≡ V3 → Obeys (served_in tree.now assigned.now plan.now)
+    requires apart { plan.now.version ≡ V3 → ObeysApart tree.now assigned.now
         (work_in plan.now) (starts_in plan.now) }
     ensures count { IfOk result (λ waits. length waits.items ≡ length plan.now.timings) }
     ensures waits { IfOk result (λ waits.

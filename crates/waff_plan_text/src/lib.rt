@@ -19,6 +19,13 @@
 //! - `reading`: the reader, over all records.
 //!
 //! `laws`: which texts are read, what the others are refused for, and that what is written is read.
+//!
+//! A plan text is read exactly where the format accepts it, with its values; else the refusal is
+//! the one that the format names: of the first record with a fault, and no fault of a lower number.
+//! The end of the text counts as one more record. What is written is read back.
+//!
+//! Tests: `test_worked/src/plan_texts.rt` (the sample plans as they are printed, rows in another
+//! order).
 #![tactic(auto)]
 
 mod field;

@@ -8,6 +8,7 @@ mod PartLemmas
 mod OpLaws
 mod OpsLaws
 mod RangeLaws
+mod ColumnLaws
 mod MessageLaws
 mod TraceLaws
 mod ExactLaws

@@ -1,6 +1,6 @@
 -- A message that was read is within the limits, and its cells lie in the spaces.
 use Rattle.std.proofs.Common.{◌≡◌, ◌≢◌, ℕ, ◌+◌, ◌-◌, ◌≤◌, List, [], length, Bool, true, false, Option, Some, None, Result, Ok, Err, refl, ap, arith}
-use Rattle.std.specs.Prelude.{IfOk, IfSome, ok_or, option_and_then, option_map, nat_le, nat_lt, ◌==◌, if◌then◌else◌}
+use Rattle.std.specs.Prelude.{IfOk, IfSome, ok_or, option_and_then, nat_le, nat_lt, ◌==◌, if◌then◌else◌}
 use Rattle.std.specs.List.{flat_map}
 use Rattle.std.proofs.lemmas.Bool.{leb-true, leb-false, ltb-false}
 use Rattle.std.proofs.lemmas.Grind.{flat_map-append}
@@ -10,20 +10,20 @@ use Rattle.waff_model.specs.Cells.{cells_of, cells_of_op}
 use Rattle.waff_model.specs.Layout.{Space}
 use Rattle.waff_model.specs.Messages.{IsMessage, no_client, sizes_of}
 use Rattle.waff_model.specs.Names.{is_name}
-use Rattle.waff_model.specs.Versions.{max_messages, max_ops}
+use Rattle.waff_model.specs.Versions.{has_clients, has_releases, max_messages, max_ops}
 use Rattle.waff_model.specs.declared.limits.TheConstants.{MAX_ALL_OPS, MAX_COST, MAX_RELEASE, MAX_THINK}
 use Rattle.waff_model.specs.declared.message.Message.{Message}
 use Rattle.waff_model.specs.declared.message.Version.{Version}
 use Rattle.waff_model.specs.declared.message.Version.TheVariants.{V1, V2, V3}
 use Rattle.waff_model.specs.declared.op.Op.{Op}
-use Rattle.waff_parse.specs.Fields.{Field, three_of, four_of, six_of}
+use Rattle.waff_parse.specs.Fields.{Field, field_of}
 use Rattle.waff_parse.specs.Refusals.{◌>>=◌, one}
 use Rattle.waff_parse.specs.Rows.{Record}
 use Rattle.waff_parse.specs.Texts.{number_of, number_within, parts, within}
 use Rattle.waff_parse.specs.Walks.{gather}
 use Rattle.waff_parse.proofs.Laws.{gather-if, gather-length}
 use Rattle.waff_parse.proofs.TextLaws.{parts-cons}
-use Rattle.waff_read.specs.Messages.{Columns, client_of, cost_of, counted, four_columns, message_of, message_of_columns, message_of_row, name_of, release_of, six_columns, think_of, three_columns}
+use Rattle.waff_read.specs.Messages.{Columns, client_of, cost_of, columns_with, counted, header_row, message_of, message_of_columns, message_of_row, name_of, only, release_of, think_of}
 use Rattle.waff_read.specs.Ops.{op_of}
 use Rattle.waff_read.specs.Pieces.{joined, ops_of, or_range, piece_of, pieces_of}
 use Rattle.waff_read.specs.Places.{lesser, most_ops}
@@ -185,26 +185,42 @@ IsClientOf version client = (is_name client ≡ true) × (version ≢ V3 → cli
 abbrev IsThinkOf : Version → ℕ → Type 0
 IsThinkOf version think = (think ≤ MAX_THINK) × (version ≢ V3 → think ≡ 0)
 
-told-release : (version : Version) → (version ≡ V1 → ⊥) → (text : Field) → IfOk (release_of (Some text)) (IsReleaseOf version)
-told-release version later text = by (number_within 0 MAX_RELEASE text) (number_within-within 0 MAX_RELEASE text)
+released : (version : Version) → (version ≡ V1 → ⊥) → (text : Field) → IfOk (release_of (Some text)) (IsReleaseOf version)
+released version later text = by (number_within 0 MAX_RELEASE text) (number_within-within 0 MAX_RELEASE text)
   where
     by : (o : Option ℕ) → IfSome o (λ n. (0 ≤ n) × (n ≤ MAX_RELEASE)) → IfOk (ok_or o fault.Release) (IsReleaseOf version)
     by None h = tt
     by (Some n) h = (h.1, λ same. absurd (later same))
 
-told-client : (text : Field) → IfOk (client_of (Some text)) (IsClientOf V3)
-told-client text = by (is_name text) refl
+named : (text : Field) → IfOk (client_of (Some text)) (IsClientOf V3)
+named text = by (is_name text) refl
   where
     by : (b : Bool) → is_name text ≡ b → IfOk (if b then Ok text else Err fault.Client) (IsClientOf V3)
     by true h = (h, λ other. absurd (other refl))
     by false h = tt
 
-told-think : (text : Field) → IfOk (think_of (Some text)) (IsThinkOf V3)
-told-think text = by (number_within 0 MAX_THINK text) (number_within-within 0 MAX_THINK text)
+thought : (text : Field) → IfOk (think_of (Some text)) (IsThinkOf V3)
+thought text = by (number_within 0 MAX_THINK text) (number_within-within 0 MAX_THINK text)
   where
     by : (o : Option ℕ) → IfSome o (λ n. (0 ≤ n) × (n ≤ MAX_THINK)) → IfOk (ok_or o fault.Think) (IsThinkOf V3)
     by None h = tt
     by (Some n) h = (h.1, λ other. absurd (other refl))
+
+-- what the columns of a version tell
+told-release : (version : Version) (text : Field) → IfOk (release_of (only (has_releases version) text)) (IsReleaseOf version)
+told-release V1 text = (omega arith, λ _. refl)
+told-release V2 text = released V2 (λ same. cc same) text
+told-release V3 text = released V3 (λ same. cc same) text
+
+told-client : (version : Version) (text : Field) → IfOk (client_of (only (has_clients version) text)) (IsClientOf version)
+told-client V1 text = (refl, λ _. refl)
+told-client V2 text = (refl, λ _. refl)
+told-client V3 text = named text
+
+told-think : (version : Version) (text : Field) → IfOk (think_of (only (has_clients version) text)) (IsThinkOf version)
+told-think V1 text = (omega arith, λ _. refl)
+told-think V2 text = (omega arith, λ _. refl)
+told-think V3 text = thought text
 
 message_of_columns-fits : (version : Version) (spaces : List Space) (place : Place) (columns : Columns)
     → IfOk (release_of columns.release) (IsReleaseOf version) → IfOk (client_of columns.client) (IsClientOf version) → IfOk (think_of columns.think) (IsThinkOf version)
@@ -260,18 +276,13 @@ message_of_columns-fits version spaces place columns released named_client thoug
         }
 
 pub message_of-fits : (version : Version) (spaces : List Space) (place : Place) (row : Record) → IfOk (message_of version spaces place row) (Fits version spaces place)
-message_of-fits V1 spaces place row = by (three_of row)
+message_of-fits version spaces place row =
+    by (length row == length (header_row version))
+    (columns_with version (field_of row 0) (field_of row 1) (field_of row 2) (field_of row 3) (field_of row 4) (field_of row (length row - 1)))
+    (told-release version (field_of row 2)) (told-client version (field_of row 3)) (told-think version (field_of row 4))
   where
-    by : (f : Option (Field × Field × Field)) → IfOk (message_of_row V1 spaces place (option_map three_columns f)) (Fits V1 spaces place)
-    by None = tt
-    by (Some f) = message_of_columns-fits V1 spaces place (three_columns f) (omega arith, λ _. refl) (refl, λ _. refl) (omega arith, λ _. refl)
-message_of-fits V2 spaces place row = by (four_of row)
-  where
-    by : (f : Option (Field × Field × Field × Field)) → IfOk (message_of_row V2 spaces place (option_map four_columns f)) (Fits V2 spaces place)
-    by None = tt
-    by (Some f) = message_of_columns-fits V2 spaces place (four_columns f) (told-release V2 (λ same. cc same) f.2) (refl, λ _. refl) (omega arith, λ _. refl)
-message_of-fits V3 spaces place row = by (six_of row)
-  where
-    by : (f : Option (Field × Field × Field × Field × Field × Field)) → IfOk (message_of_row V3 spaces place (option_map six_columns f)) (Fits V3 spaces place)
-    by None = tt
-    by (Some f) = message_of_columns-fits V3 spaces place (six_columns f) (told-release V3 (λ same. cc same) f.2) (told-client f.3) (told-think f.4)
+    by : (many : Bool) (columns : Columns)
+        → IfOk (release_of columns.release) (IsReleaseOf version) → IfOk (client_of columns.client) (IsClientOf version) → IfOk (think_of columns.think) (IsThinkOf version)
+        → IfOk (message_of_row version spaces place (if many then Some columns else None)) (Fits version spaces place)
+    by true columns released client thought = message_of_columns-fits version spaces place columns released client thought
+    by false columns released client thought = tt

@@ -1,7 +1,7 @@
 -- A record without quotes is read as its fields, which end at commas and at a line feed.
-use Rattle.std.proofs.Common.{◌≡◌, ℕ, zero, suc, ◌+◌, ◌<◌, List, [], ◌∷◌, ◌++◌, length, take, drop, get_or, Bool, true, false, Option, Some, None, Result, Ok, take_all, refl, sym, ap, ◌∙◌, append_assoc, arith}
+use Rattle.std.proofs.Common.{◌≡◌, ℕ, zero, suc, ◌+◌, ◌<◌, ◌≤◌, List, [], ◌∷◌, ◌++◌, length, take, drop, get_or, Bool, true, false, Option, Some, None, Result, Ok, take_all, refl, sym, ap, ◌∙◌, subst, append_assoc, arith}
 use Rattle.std.specs.List.{list_any}
-use Rattle.std.specs.Prelude.{◌==◌, is_some}
+use Rattle.std.specs.Prelude.{◌==◌, is_some, unwrap_or}
 use Rattle.std.specs.Result.{result_ok}
 use Rattle.std.specs.Str.{IsUtf8}
 use Rattle.std.proofs.lemmas.Bool.{false_from_ne_true, or_from, or_parts}
@@ -17,15 +17,17 @@ use Rattle.memchr.specs.Find.{IsFirstByte, Nowhere, Passes, is_byte2}
 use Rattle.waff_model.specs.Layout.{Space}
 use Rattle.waff_model.specs.declared.message.Message.{Message}
 use Rattle.waff_model.specs.declared.message.Version.{Version}
+use Rattle.waff_model.specs.Versions.{has_clients, has_releases}
 use Rattle.waff_parse.specs.Rows.{Record, is_text, records_after, records_of}
 use Rattle.waff_parse.specs.Stopping.{Gives}
 use Rattle.waff_parse.specs.declared.stop.Stop.{Stop}
 use Rattle.waff_parse.proofs.RowLaws.{records_after-end, records_after-step}
-use Rattle.waff_read.specs.Messages.{Columns, columns_of, message_of_columns}
-use Rattle.waff_read.specs.Plain.{IsField, IsPlain, IsRow, records_in}
+use Rattle.waff_read.specs.Messages.{Columns, columns_of, columns_with, message_of_columns, only, row_of, there}
+use Rattle.waff_read.specs.Plain.{IsField, IsFieldIf, IsPlain, IsRow, records_in}
 use Rattle.waff_read.specs.Traces.{GivesMessage}
 use Rattle.waff_read.specs.declared.place.Place.{Place}
 use Rattle.waff_read.specs.declared.trace_fault.TraceFault.{TraceFault}
+use Rattle.waff_read.proofs.ColumnLaws.{columns_there}
 use Rattle.waff_read.proofs.HalfLaws.{read-is}
 use Rattle.waff_read.proofs.LineLaws.{unmarked}
 use Rattle.waff_read.proofs.TraceLaws.{gives-message}
@@ -66,41 +68,87 @@ sign_field end text i plain found here utf8 =
       plain = (or_parts (is_byte2 34 13 end) (list_any (is_byte2 34 13) (drop (i + 1) text)) parts.1).1;
     }
 
--- text is a row of text, a line feed, and rest
-pub record IsLine (row : Record) (text rest : List ℕ) : Type 0 where
+-- text is a row of text that has a field, a line feed, and rest
+record IsLine (row : Record) (text rest : List ℕ) : Type 0 where
+  some : 1 ≤ length row
   whole : text ≡ row_body default_writer row ++ 10 ∷ rest
   are_text : is_text row ≡ true
   plain : IsPlain rest
 
--- the last field of a line, and a field before others
-pub last_field : {text field rest : List ℕ} → IsField 10 text field rest → IsLine (field ∷ []) text rest
+-- the last field of a line, a field before others, and that of a column that is there
+last_field : {text field rest : List ℕ} → IsField 10 text field rest → IsLine (field ∷ []) text rest
 unfolding fields_text
-last_field {text} {field} {rest} f = record { whole = rw (f.bare, append-nil field) f.whole; are_text = rw f.is_text refl; plain = f.plain }
+last_field {text} {field} {rest} f =
+    record { some = omega arith; whole = rw (f.bare, append-nil field) f.whole; are_text = rw f.is_text refl; plain = f.plain }
 
-pub more_fields : {text field rest next end : List ℕ} {others : Record} → IsField 44 text field rest → IsLine (next ∷ others) rest end
-    → IsLine (field ∷ next ∷ others) text end
+more_fields : {text field rest end : List ℕ} (others : Record) → IsField 44 text field rest → IsLine others rest end → IsLine (field ∷ others) text end
 unfolding fields_text
-more_fields {text} {field} {rest} {next} {end} {others} f line =
+more_fields [] f line = let some = line.some in absurd (omega arith)
+more_fields {text} {field} {rest} {end} (next ∷ others) f line =
     record {
+      some = omega arith;
       whole = rw f.bare (f.whole ∙ ap (λ (xs : List ℕ). field ++ 44 ∷ xs) line.whole ∙ sym (append_assoc field (44 ∷ row_body default_writer (next ∷ others)) (10 ∷ end)));
       are_text = rw f.is_text line.are_text;
       plain = line.plain;
     }
 
--- a line of two fields or more is a record
-pub line_is_row : {version : Version} {text first second rest : List ℕ} {others : Record} {columns : Columns} → IsLine (first ∷ second ∷ others) text rest
-    → columns_of version (first ∷ second ∷ others) ≡ Some columns → IsRow version text columns rest
+more_if : {text rest end : List ℕ} (has : Bool) (field : Option (List ℕ)) (others : Record) → IsFieldIf has text field rest → IsLine others rest end
+    → IsLine (there field ++ others) text end
+more_if true (Some field) others f line = more_fields others f line
+more_if false None others f line = rw f line
+more_if true None others f line = absurd f
+more_if false (Some field) others f line = absurd f
+
+only_if : (has : Bool) (text : List ℕ) (field : Option (List ℕ)) (rest : List ℕ) → IsFieldIf has text field rest → field ≡ only has (unwrap_or field [])
+only_if true text (Some field) rest f = refl
+only_if false text None rest f = refl
+only_if true text None rest f = absurd f
+only_if false text (Some field) rest f = absurd f
+
+-- a line of the columns of a version is a record
+line_is_row : (version : Version) {text rest : List ℕ} (columns : Columns) → IsLine (row_of columns) text rest → columns_of version (row_of columns) ≡ Some columns
+    → IsRow version text columns rest
 unfolding is_blank
-line_is_row {version} {text} {first} {second} {rest} {others} {columns} line is =
-    let row = first ∷ second ∷ others in
-    let whole = line.whole ∙ sym (append_assoc (row_body default_writer row) (10 ∷ []) rest) in
+line_is_row version {text} {rest} columns line is =
+    let others = there columns.release ++ (there columns.client ++ (there columns.think ++ columns.ops ∷ [])) in
+    let whole = line.whole ∙ sym (append_assoc (row_body default_writer (row_of columns)) (10 ∷ []) rest) in
     record {
-      row = row;
+      row = row_of columns;
       has_columns = is;
       are_text = line.are_text;
-      records = records_after-step st.StartRecord text (row, st.StartRecord, rest) (rw whole (read-write-many first second others rest));
+      records = records_after-step st.StartRecord text (row_of columns, st.StartRecord, rest) (rw whole (read-write-many columns.name columns.cost others rest));
       plain = line.plain;
     }
+
+-- the fields of a line, one after the other, are those of a record
+pub record AreFields (version : Version) (text : List ℕ) (columns : Columns) (rest : List ℕ) : Type 0 where
+  pub behind_name : List ℕ
+  pub behind_cost : List ℕ
+  pub behind_release : List ℕ
+  pub behind_client : List ℕ
+  pub behind_think : List ℕ
+  pub name : IsField 44 text columns.name behind_name
+  pub cost : IsField 44 behind_name columns.cost behind_cost
+  pub release : IsFieldIf (has_releases version) behind_cost columns.release behind_release
+  pub client : IsFieldIf (has_clients version) behind_release columns.client behind_client
+  pub think : IsFieldIf (has_clients version) behind_client columns.think behind_think
+  pub ops : IsField 10 behind_think columns.ops rest
+
+pub fields_are_row : (version : Version) (text : List ℕ) (columns : Columns) (rest : List ℕ) → AreFields version text columns rest → IsRow version text columns rest
+fields_are_row version text columns rest f =
+    let think = more_if (has_clients version) columns.think _ f.think (last_field f.ops) in
+    let client = more_if (has_clients version) columns.client _ f.client think in
+    let release = more_if (has_releases version) columns.release _ f.release client in
+    let line = more_fields _ f.name (more_fields _ f.cost release) in
+    line_is_row version columns line (subst (λ (c : Columns). columns_of version (row_of c) ≡ Some c) (sym same)
+    (columns_there version columns.name columns.cost (unwrap_or columns.release []) (unwrap_or columns.client []) (unwrap_or columns.think []) columns.ops))
+  where
+    same : columns ≡ columns_with version columns.name columns.cost (unwrap_or columns.release []) (unwrap_or columns.client []) (unwrap_or columns.think []) columns.ops
+    same =
+        let release = only_if (has_releases version) f.behind_cost columns.release f.behind_release f.release in
+        let client = only_if (has_clients version) f.behind_release columns.client f.behind_client f.client in
+        let think = only_if (has_clients version) f.behind_client columns.think f.behind_think f.think in
+        rw (← release, ← client, ← think) refl
 
 -- its message
 pub row_message : (version : Version) (spaces : List Space) (place : Place) (text rest : List ℕ) (columns : Columns) (message : Message) (r : Result Message (Stop TraceFault))

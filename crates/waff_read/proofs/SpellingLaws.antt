@@ -32,14 +32,15 @@ use Rattle.waff_parse.specs.Fields.{Field}
 use Rattle.waff_parse.specs.Texts.{parts}
 use Rattle.waff_parse.proofs.WrittenRows.{all_if, digits_model, number_of-decimal}
 use Rattle.waff_read.specs.Laws.{IsClient, IsRelease, IsThink, Spells, SpelledIsRead}
-use Rattle.waff_read.specs.Messages.{Columns, columns_of, four_columns, six_columns, three_columns}
+use Rattle.waff_read.specs.Messages.{Columns}
 use Rattle.waff_read.specs.Ops.{cell_of, op_of, op_of_verb, op_of_words, value_of}
 use Rattle.waff_read.specs.Pieces.{piece_of}
 use Rattle.waff_read.specs.Ranges.{range_of}
-use Rattle.waff_read.specs.Spellings.{HasSmallNumber, cell_spelled, op_spelled, ops_spelled, record_of, words_of}
+use Rattle.waff_read.specs.Spellings.{HasSmallNumber, cell_spelled, columns_spelled, op_spelled, ops_spelled, record_of, words_of}
 use Rattle.waff_read.specs.declared.place.Place.{Place}
 use Rattle.waff_read.specs.declared.trace_fault.TraceFault.{TraceFault}
 use Rattle.waff_read.specs.declared.trace_fault.TraceFault.TheVariants as fault
+use Rattle.waff_read.proofs.ColumnLaws.{columns_there}
 use Rattle.waff_read.proofs.ExactLaws.{record_is_exact}
 use Rattle.waff_read.proofs.MessageLaws.{fits-most}
 use Rattle.waff_read.proofs.OpsLaws.{piece-op}
@@ -316,18 +317,6 @@ module _ (layout : Hierarchy) (is : IsLayout layout) where
         think = thought;
       }
 
--- the columns of a record that spells a message
-abbrev columns_spelled : Version → List Space → Message → Columns
-columns_spelled V1 spaces message = three_columns (message.name, decimal message.cost, ops_spelled spaces message.ops)
-columns_spelled V2 spaces message = four_columns (message.name, decimal message.cost, decimal message.release, ops_spelled spaces message.ops)
-columns_spelled V3 spaces message =
-    six_columns (message.name, decimal message.cost, decimal message.release, message.client, decimal message.think, ops_spelled spaces message.ops)
-
-columns_there : (version : Version) (spaces : List Space) (message : Message) → columns_of version (record_of version spaces message) ≡ Some (columns_spelled version spaces message)
-columns_there V1 spaces message = refl
-columns_there V2 spaces message = refl
-columns_there V3 spaces message = refl
-
 columns_spell : (layout : Hierarchy) (is : IsLayout layout) (version : Version) (place : Place) (message : Message) → IsMessage version (sizes_of layout.spaces) message
     → All HasSmallNumber message.ops → place.at ≤ max_messages version + 1 → place.ops + length message.ops ≤ MAX_ALL_OPS
     → Spells version layout.spaces place (columns_spelled version layout.spaces message) message
@@ -347,4 +336,4 @@ columns_spell layout is V3 place message within small counted room =
 pub spelled_is_read : (layout : Hierarchy) (version : Version) (place : Place) (message : Message) → SpelledIsRead layout version place message
 spelled_is_read layout version place message is within small counted room =
     (record_is_exact version layout.spaces place (record_of version layout.spaces message) message).1
-    (columns_spelled version layout.spaces message, columns_there version layout.spaces message, columns_spell layout is version place message within small counted room)
+    (columns_spelled version layout.spaces message, columns_there version message.name (decimal message.cost) (decimal message.release) message.client (decimal message.think) (ops_spelled layout.spaces message.ops), columns_spell layout is version place message within small counted room)

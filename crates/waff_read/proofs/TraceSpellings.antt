@@ -10,6 +10,7 @@ use Rattle.std.proofs.lemmas.List.Elements.{All-cons, All-head, All-nil, All-tai
 use Rattle.std.proofs.lemmas.Str.{IsUtf8-from_ascii, is_utf8-from_IsUtf8}
 use Rattle.std.proofs.lemmas.Str.Ascii.{IsAscii-from_all}
 use Rattle.csv.specs.Machine.{next_record}
+use Rattle.csv.specs.Records.{field_at}
 use Rattle.csv.specs.Reading.{strip_bom}
 use Rattle.csv.specs.Writing.{default_writer, fields_text, is_blank, read_back, row_text}
 use Rattle.csv.specs.declared.parser.State.TheVariants as state
@@ -23,13 +24,14 @@ use Rattle.waff_model.specs.declared.limits.TheConstants.{MAX_ALL_OPS}
 use Rattle.waff_model.specs.declared.message.Message.{Message}
 use Rattle.waff_model.specs.declared.message.Version.{Version}
 use Rattle.waff_model.specs.declared.message.Version.TheVariants.{V1, V2, V3}
+use Rattle.waff_parse.specs.Fields.{Field}
 use Rattle.waff_parse.specs.Refusals.{told}
 use Rattle.waff_parse.specs.Rows.{Record, is_text, records_after, records_of}
 use Rattle.waff_parse.proofs.RowLaws.{records_after-end, records_after-step}
 use Rattle.waff_read.specs.Laws.{SpelledTraceIsRead}
-use Rattle.waff_read.specs.Messages.{told_version}
+use Rattle.waff_read.specs.Messages.{Columns, columns_with, header_row, row_of, told_version}
 use Rattle.waff_read.specs.Places.{first_place, next_place}
-use Rattle.waff_read.specs.Spellings.{HasSmallNumber, header_row, op_spelled, ops_spelled, record_of, text_of}
+use Rattle.waff_read.specs.Spellings.{HasSmallNumber, columns_spelled, op_spelled, ops_spelled, record_of, text_of}
 use Rattle.waff_read.specs.TraceFaults.{at_record}
 use Rattle.waff_read.specs.declared.place.Place.{Place}
 use Rattle.waff_read.specs.Traces.{header_of, message_at, messages_at, trace_of_records}
@@ -50,36 +52,27 @@ rows_read (row ∷ rows) each =
 -- a text that begins with a header begins with no byte order mark
 no_mark : (version : Version) (rest : List ℕ) → strip_bom (row_text default_writer (header_row version) ++ rest) ≡ row_text default_writer (header_row version) ++ rest
 unfolding strip_bom is_blank fields_text
-no_mark V1 rest = refl
-no_mark V2 rest = refl
-no_mark V3 rest = refl
+no_mark version rest = refl
 
 records_of-unmarked : (text : List ℕ) → strip_bom text ≡ text → records_of text ≡ records_after state.StartRecord (Some text)
 unfolding records_after
 records_of-unmarked text unmarked = rw unmarked refl
 
-header_back : (version : Version) → read_back (header_row version) ≡ header_row version
-header_back V1 = refl
-header_back V2 = refl
-header_back V3 = refl
-
-record_back : (version : Version) (spaces : List Space) (message : Message) → read_back (record_of version spaces message) ≡ record_of version spaces message
-record_back V1 spaces message = refl
-record_back V2 spaces message = refl
-record_back V3 spaces message = refl
+row_back : (columns : Columns) → read_back (row_of columns) ≡ row_of columns
+row_back columns = refl
 
 records_back : (version : Version) (spaces : List Space) (messages : List Message) → All (λ row. read_back row ≡ row) (map (record_of version spaces) messages)
 records_back version spaces [] = All-nil (λ (row : Record). read_back row ≡ row)
 records_back version spaces (message ∷ messages) =
     All-cons (λ row. read_back row ≡ row) (record_of version spaces message) (map (record_of version spaces) messages)
-    (record_back version spaces message) (records_back version spaces messages)
+    (row_back (columns_spelled version spaces message)) (records_back version spaces messages)
 
 records_of-text : (spaces : List Space) (trace : Arrivals) → records_of (text_of spaces trace) ≡ header_row trace.version ∷ map (record_of trace.version spaces) trace.messages
 records_of-text spaces trace =
     records_of-unmarked (text_of spaces trace) (no_mark trace.version (flat_map (row_text default_writer) (map (record_of trace.version spaces) trace.messages)))
     ∙ rows_read (header_row trace.version ∷ map (record_of trace.version spaces) trace.messages)
     (All-cons (λ row. read_back row ≡ row) (header_row trace.version) (map (record_of trace.version spaces) trace.messages)
-    (header_back trace.version) (records_back trace.version spaces trace.messages))
+    refl (records_back trace.version spaces trace.messages))
 
 -- ASCII is text
 name_is_ascii : (b : ℕ) → is_name_byte b ≡ true → b < 128
@@ -91,14 +84,20 @@ ascii_is_text text each = is_utf8-from_IsUtf8 text (IsUtf8-from_ascii text (IsAs
 literal_is_text : (text : List ℕ) → list_all (λ b. nat_lt b 128) text ≡ true → is_utf8 text ≡ true
 literal_is_text text small = ascii_is_text text (all_if (λ b. b < 128) (λ b. nat_lt b 128) (λ b below. ltb-true b 128 below) text small)
 
+row_is_text : (version : Version) (name cost release client think ops : Field) → is_utf8 name ≡ true → is_utf8 cost ≡ true → is_utf8 release ≡ true
+    → is_utf8 client ≡ true → is_utf8 think ≡ true → is_utf8 ops ≡ true → is_text (row_of (columns_with version name cost release client think ops)) ≡ true
+row_is_text V1 name cost release client think ops n c r k t o = rw (n, c, o) refl
+row_is_text V2 name cost release client think ops n c r k t o = rw (n, c, r, o) refl
+row_is_text V3 name cost release client think ops n c r k t o = rw (n, c, r, k, t, o) refl
+
 header_text : (version : Version) → is_text (header_row version) ≡ true
-header_text V1 = rw (literal_is_text (codes "message") refl, literal_is_text (codes "cost") refl, literal_is_text (codes "ops") refl) refl
-header_text V2 =
-    rw (literal_is_text (codes "message") refl, literal_is_text (codes "cost") refl, literal_is_text (codes "release") refl, literal_is_text (codes "ops") refl) refl
-header_text V3 =
-    rw (literal_is_text (codes "message") refl, literal_is_text (codes "cost") refl, literal_is_text (codes "release") refl, literal_is_text (codes "client") refl, literal_is_text (codes "think") refl, literal_is_text (codes "ops") refl) refl
+header_text version =
+    row_is_text version (codes "message") (codes "cost") (codes "release") (codes "client") (codes "think") (codes "ops")
+    (literal_is_text (codes "message") refl) (literal_is_text (codes "cost") refl) (literal_is_text (codes "release") refl)
+    (literal_is_text (codes "client") refl) (literal_is_text (codes "think") refl) (literal_is_text (codes "ops") refl)
 
 header_told : (version : Version) → told_version (header_row version) ≡ Ok version
+unfolding field_at
 header_told V1 = refl
 header_told V2 = refl
 header_told V3 = refl
@@ -121,25 +120,14 @@ module _ (layout : Hierarchy) (is : IsLayout layout) where
   -- the record of a message is text
   record_is_text : (version : Version) (message : Message) → IsMessage version (sizes_of layout.spaces) message → All HasSmallNumber message.ops
       → is_text (record_of version layout.spaces message) ≡ true
-  record_is_text V1 message within small =
-      let cost : message.cost < 2 ^ 64 = omega (arith, within.within_cost) in
-      rw (ascii_is_text message.name (name_all (λ b. b < 128) name_is_ascii message.name within.named), number_is_text message.cost cost, ops_are_text V1 message within small) refl
-  record_is_text V2 message within small =
-      let cost : message.cost < 2 ^ 64 = omega (arith, within.within_cost) in
-      let release : message.release < 2 ^ 64 = omega (arith, within.within_release) in
-      rw (ascii_is_text message.name (name_all (λ b. b < 128) name_is_ascii message.name within.named), number_is_text message.cost cost, number_is_text message.release release, ops_are_text V2 message within small) refl
-  record_is_text V3 message within small =
+  record_is_text version message within small =
       let cost : message.cost < 2 ^ 64 = omega (arith, within.within_cost) in
       let release : message.release < 2 ^ 64 = omega (arith, within.within_release) in
       let think : message.think < 2 ^ 64 = omega (arith, within.within_think) in
-      rw (
-        ascii_is_text message.name (name_all (λ b. b < 128) name_is_ascii message.name within.named),
-        number_is_text message.cost cost,
-        number_is_text message.release release,
-        ascii_is_text message.client (name_all (λ b. b < 128) name_is_ascii message.client within.named_client),
-        number_is_text message.think think,
-        ops_are_text V3 message within small,
-      ) refl
+      row_is_text version message.name (decimal message.cost) (decimal message.release) message.client (decimal message.think) (ops_spelled layout.spaces message.ops)
+      (ascii_is_text message.name (name_all (λ b. b < 128) name_is_ascii message.name within.named)) (number_is_text message.cost cost)
+      (number_is_text message.release release) (ascii_is_text message.client (name_all (λ b. b < 128) name_is_ascii message.client within.named_client))
+      (number_is_text message.think think) (ops_are_text version message within small)
 
   -- messages are read from their records
   messages_read : (version : Version) (place : Place) (messages : List Message) → All (IsMessage version (sizes_of layout.spaces)) messages

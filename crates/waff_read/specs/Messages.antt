@@ -1,16 +1,18 @@
 -- Messages as records of a trace.
-use Rattle.std.specs.Prelude.{ℕ, ◌+◌, List, Option, Some, None, option_map, ok_or, Result, Ok, Err}
-use Rattle.std.specs.Prelude.{codes, nat_le, nat_lt, Bool, false, ◌&&◌, if◌then◌else◌}
+use Rattle.std.specs.Prelude.{ℕ, ◌+◌, ◌-◌, ◌==◌, List, [], ◌∷◌, ◌++◌, length, Option, Some, None}
+use Rattle.std.specs.Prelude.{ok_or, Result, Ok, Err, codes, nat_le, nat_lt, Bool, true, false}
+use Rattle.std.specs.Prelude.{◌&&◌, if◌then◌else◌}
 use Rattle.std.specs.Str.{bytes_eq}
 use Rattle.waff_model.specs.Layout.{Space}
 use Rattle.waff_model.specs.Messages.{no_client}
 use Rattle.waff_model.specs.Names.{is_name}
 use Rattle.waff_model.specs.Versions as versions
+use Rattle.waff_model.specs.Versions.{has_clients, has_releases}
 use Rattle.waff_model.specs.declared.limits.TheConstants.{MAX_COST, MAX_RELEASE, MAX_THINK}
 use Rattle.waff_model.specs.declared.message.Message.{Message}
 use Rattle.waff_model.specs.declared.message.Version.{Version}
 use Rattle.waff_model.specs.declared.message.Version.TheVariants.{V1, V2, V3}
-use Rattle.waff_parse.specs.Fields.{Field, three_of, four_of, six_of}
+use Rattle.waff_parse.specs.Fields.{Field, field_of}
 use Rattle.waff_parse.specs.Refusals.{◌>>=◌}
 use Rattle.waff_parse.specs.Rows.{Record}
 use Rattle.waff_parse.specs.Texts.{number_within}
@@ -20,33 +22,76 @@ use Rattle.waff_read.specs.declared.place.Place.{Place}
 use Rattle.waff_read.specs.declared.trace_fault.TraceFault.{TraceFault}
 use Rattle.waff_read.specs.declared.trace_fault.TraceFault.TheVariants as fault
 
--- the header of a trace of the first version, by its fields if they are three
-abbrev pub is_first_header : Option (Field × Field × Field) → Bool
-is_first_header None = false
-is_first_header (Some f) =
-    bytes_eq f.0 (codes "message") && (bytes_eq f.1 (codes "cost") && bytes_eq f.2 (codes "ops"))
+-- the fields of a message: none is the field of a column that the version has not
+pub record Columns : Type 0 where
+  pub name : Field
+  pub cost : Field
+  pub release : Option Field
+  pub client : Option Field
+  pub think : Option Field
+  pub ops : Field
 
--- the header of a trace of the second version, by its fields if they are four
-abbrev pub is_second_header : Option (Field × Field × Field × Field) → Bool
-is_second_header None = false
-is_second_header (Some f) =
-    bytes_eq f.0 (codes "message") && (bytes_eq f.1 (codes "cost")
-    && (bytes_eq f.2 (codes "release") && bytes_eq f.3 (codes "ops")))
+-- the field of a column that is there
+abbrev pub only : Bool → Field → Option Field
+only has text = if has then Some text else None
 
--- the header of a trace of the third version, by its fields if they are six
-abbrev pub is_third_header : Option (Field × Field × Field × Field × Field × Field) → Bool
-is_third_header None = false
-is_third_header (Some f) =
-    bytes_eq f.0 (codes "message") && (bytes_eq f.1 (codes "cost")
-    && (bytes_eq f.2 (codes "release") && (bytes_eq f.3 (codes "client")
-    && (bytes_eq f.4 (codes "think") && bytes_eq f.5 (codes "ops")))))
+-- the columns of a version, with a field for each that it may have
+abbrev pub columns_with : Version → Field → Field → Field → Field → Field → Field → Columns
+columns_with version name cost release client think ops = record {
+  name = name;
+  cost = cost;
+  release = only (has_releases version) release;
+  client = only (has_clients version) client;
+  think = only (has_clients version) think;
+  ops = ops;
+}
+
+-- the field that is there
+abbrev pub there : Option Field → Record
+there None = []
+there (Some text) = text ∷ []
+
+-- the record of fields, in the order of the columns
+abbrev pub row_of : Columns → Record
+row_of columns = columns.name
+    ∷ columns.cost
+    ∷ there columns.release ++ (there columns.client ++ (there columns.think ++ columns.ops ∷ []))
+
+-- the header of a trace
+abbrev pub header_row : Version → Record
+header_row version = row_of (columns_with version (codes "message") (codes "cost") (codes "release")
+    (codes "client") (codes "think") (codes "ops"))
+
+-- the fields of a record that has as many as the header of its version, the operations in the last
+abbrev pub columns_of : Version → Record → Option Columns
+columns_of version row =
+    if length row == length (header_row version) then Some (columns_with version (field_of row 0)
+    (field_of row 1) (field_of row 2) (field_of row 3) (field_of row 4) (field_of row (length row - 1)))
+    else None
+
+-- the field of a column that is there is its title
+abbrev pub is_title : Field → Option Field → Bool
+is_title title None = true
+is_title title (Some text) = bytes_eq text title
+
+-- each field is the title of its column
+abbrev pub are_titles : Columns → Bool
+are_titles columns =
+    bytes_eq columns.name (codes "message") && (bytes_eq columns.cost (codes "cost")
+    && (is_title (codes "release") columns.release && (is_title (codes "client") columns.client
+    && (is_title (codes "think") columns.think && bytes_eq columns.ops (codes "ops")))))
+
+-- a record is the header of a version
+abbrev pub is_header : Option Columns → Bool
+is_header None = false
+is_header (Some columns) = are_titles columns
 
 -- the version that a header tells
 abbrev pub told_version : Record → Result Version TraceFault
 told_version row =
-    if is_first_header (three_of row) then Ok V1
-    else if is_second_header (four_of row) then Ok V2
-    else if is_third_header (six_of row) then Ok V3
+    if is_header (columns_of V1 row) then Ok V1
+    else if is_header (columns_of V2 row) then Ok V2
+    else if is_header (columns_of V3 row) then Ok V3
     else Err fault.Header
 
 -- a version up to the newest that is known
@@ -58,52 +103,6 @@ known newest version =
 -- the version that a header tells, up to the newest that is known
 abbrev pub version_of : Version → Record → Result Version TraceFault
 version_of newest row = told_version row >>= known newest
-
--- the fields of a message: none is the field of a column that the version has not
-pub record Columns : Type 0 where
-  pub name : Field
-  pub cost : Field
-  pub release : Option Field
-  pub client : Option Field
-  pub think : Option Field
-  pub ops : Field
-
-abbrev pub three_columns : Field × Field × Field → Columns
-three_columns f = record {
-  name = f.0;
-  cost = f.1;
-  release = None;
-  client = None;
-  think = None;
-  ops = f.2;
-}
-
-abbrev pub four_columns : Field × Field × Field × Field → Columns
-four_columns f = record {
-  name = f.0;
-  cost = f.1;
-  release = Some f.2;
-  client = None;
-  think = None;
-  ops = f.3;
-}
-
-abbrev pub six_columns : Field × Field × Field × Field × Field × Field → Columns
-six_columns f = record {
-  name = f.0;
-  cost = f.1;
-  release = Some f.2;
-  client = Some f.3;
-  think = Some f.4;
-  ops = f.5;
-}
-
--- the fields of a record: it has three in the first version, four in the second, and six in the
--- third
-abbrev pub columns_of : Version → Record → Option Columns
-columns_of V1 row = option_map three_columns (three_of row)
-columns_of V2 row = option_map four_columns (four_of row)
-columns_of V3 row = option_map six_columns (six_of row)
 
 -- a name
 abbrev pub name_of : Field → Result Field TraceFault

@@ -1,5 +1,5 @@
 -- Records without quotes.
-use Rattle.std.specs.Prelude.{◌≡◌, ℕ, List, ◌∷◌, ◌++◌, true, false, Some}
+use Rattle.std.specs.Prelude.{◌≡◌, ℕ, List, ◌∷◌, ◌++◌, Bool, true, false, Option, Some, None}
 use Rattle.std.specs.Str.{is_utf8}
 use Rattle.std.specs.List.{list_any}
 use Rattle.csv.specs.Writing.{default_writer, needs_quotes}
@@ -23,6 +23,12 @@ pub record IsField (end : ℕ) (text field rest : List ℕ) : Type 0 where
   pub bare : needs_quotes default_writer field ≡ false
   pub is_text : is_utf8 field ≡ true
   pub plain : IsPlain rest
+
+-- the same of a column that is there, whose field a comma ends; of none nothing stands before rest
+abbrev pub IsFieldIf : Bool → List ℕ → Option (List ℕ) → List ℕ → Type 0
+IsFieldIf true text (Some field) rest = IsField 44 text field rest
+IsFieldIf false text None rest = text ≡ rest
+IsFieldIf _ text field rest = ⊥
 
 -- text is a record of these columns, and rest, which is plain
 pub record IsRow (version : Version) (text : List ℕ) (columns : Columns) (rest : List ℕ)

@@ -61,15 +61,23 @@ range_of_two spaces words =
       Ok (range_to deed.Read ends))
     else Err fault.Op
 
+-- the range behind `set`: its cells and a value
+abbrev pub set_range : List Space → Field → Field → Result Range TraceFault
+set_range spaces cells value = do
+  p ← pair number (ends_of spaces cells) (value_of value)
+  Ok (range_to (deed.Set p.1) p.0)
+
+-- the range behind `add`
+abbrev pub add_range : List Space → Field → Field → Result Range TraceFault
+add_range spaces cells value = do
+  p ← pair number (ends_of spaces cells) (value_of value)
+  Ok (range_to (deed.Add p.1) p.0)
+
 -- the range of three words: `set` or `add`, its cells and a value
 abbrev pub range_of_three : List Space → Field × Field × Field → Result Range TraceFault
 range_of_three spaces words =
-    if bytes_eq words.0 (codes "set") then (do
-      p ← pair number (ends_of spaces words.1) (value_of words.2)
-      Ok (range_to (deed.Set p.1) p.0))
-    else if bytes_eq words.0 (codes "add") then (do
-      p ← pair number (ends_of spaces words.1) (value_of words.2)
-      Ok (range_to (deed.Add p.1) p.0))
+    if bytes_eq words.0 (codes "set") then set_range spaces words.1 words.2
+    else if bytes_eq words.0 (codes "add") then add_range spaces words.1 words.2
     else Err fault.Op
 
 abbrev pub range_of_words : List Space

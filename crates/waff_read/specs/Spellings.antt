@@ -8,11 +8,11 @@ use Rattle.waff_model.specs.Messages.{Arrivals}
 use Rattle.waff_model.specs.declared.cell.Cell.{Cell}
 use Rattle.waff_model.specs.declared.message.Message.{Message}
 use Rattle.waff_model.specs.declared.message.Version.{Version}
-use Rattle.waff_model.specs.declared.message.Version.TheVariants.{V1, V2, V3}
 use Rattle.waff_model.specs.declared.op.Op.{Op}
 use Rattle.waff_model.specs.declared.op.Op.TheVariants as op
 use Rattle.waff_parse.specs.Rows.{Record}
 use Rattle.waff_parse.specs.Texts.{blank, colon, semicolon}
+use Rattle.waff_read.specs.Messages.{Columns, columns_with, header_row, row_of}
 
 -- a cell: the name of its space, `:` and its index
 abbrev pub cell_spelled : List Space → Cell → List ℕ
@@ -37,23 +37,16 @@ op_spelled spaces o = join_with_byte blank (words_of spaces o)
 abbrev pub ops_spelled : List Space → List Op → List ℕ
 ops_spelled spaces list = join_with_byte semicolon (map (op_spelled spaces) list)
 
+-- the fields of the record of a message
+abbrev pub columns_spelled : Version → List Space → Message → Columns
+columns_spelled version spaces message = columns_with version message.name (decimal message.cost)
+    (decimal message.release) message.client (decimal message.think)
+    (ops_spelled spaces message.ops)
+
 -- the record of a message: its name, its cost, from the second version on its release, in the third
 -- its client and its think time, and its operations
 abbrev pub record_of : Version → List Space → Message → Record
-record_of V1 spaces message =
-    message.name ∷ decimal message.cost ∷ ops_spelled spaces message.ops ∷ []
-record_of V2 spaces message = message.name
-    ∷ decimal message.cost ∷ decimal message.release ∷ ops_spelled spaces message.ops ∷ []
-record_of V3 spaces message = message.name
-    ∷ decimal message.cost ∷ decimal message.release ∷ message.client ∷ decimal message.think
-    ∷ ops_spelled spaces message.ops ∷ []
-
--- the header of a trace
-abbrev pub header_row : Version → Record
-header_row V1 = codes "message" ∷ codes "cost" ∷ codes "ops" ∷ []
-header_row V2 = codes "message" ∷ codes "cost" ∷ codes "release" ∷ codes "ops" ∷ []
-header_row V3 = codes "message"
-    ∷ codes "cost" ∷ codes "release" ∷ codes "client" ∷ codes "think" ∷ codes "ops" ∷ []
+record_of version spaces message = row_of (columns_spelled version spaces message)
 
 -- the text of a trace, as `csv` writes it: its header, and then the record of each message
 abbrev pub text_of : List Space → Arrivals → List ℕ

@@ -1,12 +1,13 @@
 //! Texts of records without quotes, which are read without the CSV reader.
 
-ghost use Rattle.std.specs.Prelude.{◌≡◌, ◌<◌, IfSome, Ok, Some};
+ghost use Rattle.std.specs.Prelude.{◌≡◌, ◌<◌, IfSome, Ok, Some, option_map};
 ghost use Rattle.waff_model.specs.Messages.{ops_in};
 ghost use Rattle.waff_read.specs.Plain as plain;
 ghost use Rattle.waff_read.specs.Traces as traces;
 
+use crate::columns::Columns;
 use crate::lines::begins_as_mark;
-use crate::message::{Columns, message_of_columns};
+use crate::message::message_of_columns;
 use crate::place::Place;
 use crate::space_table::SpaceTable;
 use crate::trace::Messages;
@@ -29,6 +30,21 @@ fn next_field(text: &str, end: u8) -> Option<(&str, &str)>
     Some((&text[..place], &text[place + 1..]))
 }
 
+// The field of a column that is there, which a comma ends, and what stands behind it.
+#[inline(always)]
+fn next_if(has: bool, text: &str) -> Option<(Option<&str>, &str)>
+    requires { plain.IsPlain text.now }
+    ensures field { IfSome result (λ parts. plain.IsFieldIf has text.now
+        (option_map (λ s. s.now) parts.0) parts.1.now) }
+    ensures plain { IfSome result (λ parts. plain.IsPlain parts.1.now) }
+{
+    if !has {
+        return Some((None, text));
+    }
+    let (field, rest) = next_field(text, b',')?;
+    Some((Some(field), rest))
+}
+
 // The fields of the first record of a text, and what stands behind it.
 fn next_columns(version: Version, text: &str) -> Option<(Columns<'_>, &str)>
     requires { plain.IsPlain text.now }
@@ -36,48 +52,19 @@ fn next_columns(version: Version, text: &str) -> Option<(Columns<'_>, &str)>
 {
     let (name, rest) = next_field(text, b',')?;
     let (cost, rest) = next_field(rest, b',')?;
-    match version {
-        Version::V1 => {
-            let (ops, rest) = next_field(rest, b'\n')?;
-            let columns = Columns {
-                name,
-                cost,
-                release: None,
-                client: None,
-                think: None,
-                ops,
-            };
-            Some((columns, rest))
-        }
-        Version::V2 => {
-            let (release, rest) = next_field(rest, b',')?;
-            let (ops, rest) = next_field(rest, b'\n')?;
-            let columns = Columns {
-                name,
-                cost,
-                release: Some(release),
-                client: None,
-                think: None,
-                ops,
-            };
-            Some((columns, rest))
-        }
-        Version::V3 => {
-            let (release, rest) = next_field(rest, b',')?;
-            let (client, rest) = next_field(rest, b',')?;
-            let (think, rest) = next_field(rest, b',')?;
-            let (ops, rest) = next_field(rest, b'\n')?;
-            let columns = Columns {
-                name,
-                cost,
-                release: Some(release),
-                client: Some(client),
-                think: Some(think),
-                ops,
-            };
-            Some((columns, rest))
-        }
-    }
+    let (release, rest) = next_if(version.has_releases(), rest)?;
+    let (client, rest) = next_if(version.has_clients(), rest)?;
+    let (think, rest) = next_if(version.has_clients(), rest)?;
+    let (ops, rest) = next_field(rest, b'\n')?;
+    let columns = Columns {
+        name,
+        cost,
+        release,
+        client,
+        think,
+        ops,
+    };
+    Some((columns, rest))
 }
 
 // The message of the first record of a text, which is at this place, and what stands behind it.

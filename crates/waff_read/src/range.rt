@@ -1,8 +1,6 @@
 //! Ranges: a piece that stands for an operation on each of some cells in a row.
 
-ghost use Rattle.std.specs.Prelude.{◌≡◌, ◌<◌, ◌≤◌, option_map, IfOk};
-ghost use Rattle.waff_parse.specs.Fields as fields;
-ghost use Rattle.waff_parse.specs.Texts.{blank, parts};
+ghost use Rattle.std.specs.Prelude.{◌≡◌};
 ghost use Rattle.waff_read.specs.Ranges as ranges;
 
 use crate::op::{named_cell, read_value};
@@ -98,6 +96,22 @@ fn range_of_two(spaces: &SpaceTable<'_>, verb: &str, cells: &str) -> Result<Rang
     Ok(range_to(Deed::Read, ends))
 }
 
+// The range behind `set`.
+fn set_range(spaces: &SpaceTable<'_>, cells: &str, value: &str) -> Result<Range, TraceFault>
+    ensures { result ≡ ranges.set_range spaces.now cells.now value.now }
+{
+    let (ends, value) = pair(read_ends(spaces, cells), read_value(value))?;
+    Ok(range_to(Deed::Set { value }, ends))
+}
+
+// The range behind `add`.
+fn add_range(spaces: &SpaceTable<'_>, cells: &str, value: &str) -> Result<Range, TraceFault>
+    ensures { result ≡ ranges.add_range spaces.now cells.now value.now }
+{
+    let (ends, value) = pair(read_ends(spaces, cells), read_value(value))?;
+    Ok(range_to(Deed::Add { value }, ends))
+}
+
 // The range of three words.
 fn range_of_three(
     spaces: &SpaceTable<'_>,
@@ -108,12 +122,10 @@ fn range_of_three(
     ensures { result ≡ ranges.range_of_three spaces.now (verb.now, cells.now, value.now) }
 {
     if verb == "set" {
-        let (ends, value) = pair(read_ends(spaces, cells), read_value(value))?;
-        return Ok(range_to(Deed::Set { value }, ends));
+        return set_range(spaces, cells, value);
     }
     if verb == "add" {
-        let (ends, value) = pair(read_ends(spaces, cells), read_value(value))?;
-        return Ok(range_to(Deed::Add { value }, ends));
+        return add_range(spaces, cells, value);
     }
     Err(TraceFault::Op)
 }

@@ -8,7 +8,8 @@ ghost use Rattle.waff_parse.specs.Stopping.{Gives};
 ghost use Rattle.waff_read.specs.Places.{first_place};
 ghost use Rattle.waff_read.specs.Traces as traces;
 
-use crate::message::{read_message, read_version};
+use crate::columns::read_version;
+use crate::message::read_message;
 use crate::place::Place;
 use crate::space_table::SpaceTable;
 use crate::trace_fault::{TraceError, TraceFault};

@@ -1,9 +1,10 @@
 //! Why a trace is refused.
 
 ghost use Rattle.std.specs.Prelude.{◌≡◌};
+ghost use Rattle.waff_parse.specs.declared.stop.Stop.TheVariants.{Fault};
 ghost use Rattle.waff_read.specs.TraceFaults as faults;
 
-use waff_parse::Ranked;
+use waff_parse::{Ranked, Stop};
 
 /// What is wrong with a record of a trace, in the order of the numbers that the errors have.
 #[derive(Clone, Copy)]
@@ -58,6 +59,14 @@ impl Ranked for TraceFault {
             TraceFault::Client => 14,
             TraceFault::Think => 15,
         }
+    }
+}
+
+impl From<TraceFault> for Stop<TraceFault> {
+    ghost from_gives = { λ fault stop. stop ≡ Fault fault };
+
+    fn from(fault: TraceFault) -> Stop<TraceFault> {
+        Stop::Fault(fault)
     }
 }
 

@@ -3,3 +3,7 @@ mod ByIssue
 mod Kept
 mod ServedByIssue
 mod Turns
+mod Ran
+mod Sooner
+mod Telling
+mod Unique

@@ -1,2 +1,4 @@
 pub mod Runs
 pub mod Service
+pub mod Rounded
+pub mod Laws

@@ -6,3 +6,4 @@ mod Ending
 mod Listing
 mod Ones
 mod Calling
+mod Again

@@ -12,9 +12,9 @@ use Rattle.waff_plan.proofs.ApartLaws.{apart_where_finished}
 use Rattle.waff_plan.proofs.StartOrder.{served_apart}
 use Rattle.waff_line.specs.Laws.{AreAllEnded, EachHasRun, OneAfterAnother, RunIsWorkerPlan, RunsEachOnce, WorkersAreThere}
 use Rattle.waff_line.specs.Machine.{Course, IsCourse, Reaches, Runs, State, measured, opening, start_in}
+use Rattle.waff_line.specs.Turns.{ArePlanned}
 use Rattle.waff_line.specs.declared.event.Event.{Event}
 use Rattle.waff_line.proofs.Sound.{sound_reached}
-use Rattle.waff_run.specs.Turns.{ArePlanned}
 
 -- the laws of the machine that make a plan of a run
 pub record AreLaws (course : Course) : Type 0 where

@@ -11,11 +11,11 @@ use Rattle.waff_line.specs.Laws.{AreAllEnded}
 use Rattle.waff_line.specs.Lined.{LineValue, course_in}
 use Rattle.waff_line.specs.Machine.{Course, IsCourse, IsRunning, Reaches, Runs, State, Steps, Turn, no_turn, opening, turn_of}
 use Rattle.waff_line.specs.Noted.{shown}
+use Rattle.waff_line.specs.Turns.{AreReached, AreRunTurns, course_by}
 use Rattle.waff_line.specs.declared.event.Event.{Event}
 use Rattle.waff_line.specs.declared.event.Event.TheVariants.{Begin, End}
 use Rattle.waff_line.specs.declared.turn.Turn.{Turn as NotedTurn}
 use Rattle.waff_line.proofs.Sound.{sound_reached}
-use Rattle.waff_run.specs.Turns.{AreReached, AreRunTurns, course_by}
 use Rattle.waff_run.proofs.Planned.{AreLaws, planned}
 
 -- one more event

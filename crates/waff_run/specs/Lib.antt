@@ -1,7 +1,9 @@
+pub mod Faults
 pub mod Texts
-pub mod Turns
 pub mod Places
 pub mod PlaceLaws
 pub mod Named
 pub mod Syncing
 pub mod Calls
+pub mod Same
+pub mod Opening

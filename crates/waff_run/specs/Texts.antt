@@ -1,9 +1,9 @@
 -- The texts that a run gives out.
 use Rattle.std.specs.Prelude.{ℕ, List}
 use Rattle.waff_assign.specs.Instance.{Instance}
+use Rattle.waff_line.specs.Turns.{AreRunTurns, course_by}
 use Rattle.waff_line.specs.declared.turn.Turn.{Turn}
 use Rattle.waff_record.specs.Runs.{AreRunTexts}
-use Rattle.waff_run.specs.Turns.{AreRunTurns, course_by}
 
 -- texts tell a run of an instance by so many workers: events of the machine left turns, and these are told
 pub record TellRun (hierarchy_file : List ℕ) (instance : Instance) (workers : ℕ)

@@ -1,4 +1,6 @@
 //! Why a run ended before its end, and told nothing.
+ghost use Rattle.std.specs.Prelude.{ℕ};
+ghost use Rattle.waff_run.specs.Faults.{IsOfRun};
 
 use crate::store::StoreFault;
 use std::alloc::AllocError;
@@ -13,6 +15,8 @@ pub enum Stopped {
     Tick(u32),
     /// In this file something could not be done.
     File(usize),
+    /// Only so many workers could be started, the first of them counted.
+    Threads(u32),
     /// The line would have gone on out of turn.
     Line,
 }
@@ -38,13 +42,22 @@ pub enum RunError {
     Tick(u32),
     /// The folder of the store is none.
     Folder,
-    /// The file of the store that has this name could not be opened, made longer, read, written or synced.
+    /// The file of the store that has this name is another one of the files of the run; or it is none of the store, and
+    /// this is `trace`.
+    Same(String),
+    /// The file of the store that has this name is there, no run has made it, and it is not to be written over.
+    Foreign(String),
+    /// The file of the store that has this name could not be opened, locked, made longer, read, written or synced.
     File(String),
+    /// Only so many workers could be started, the first of them counted, and nothing was run.
+    Threads(u32),
     /// The check did not accept what was run, or the line would have gone on out of turn.
     Run,
 }
 
 impl From<AllocError> for RunError {
+    ghost from_gives = { λ _ error. (messages : ℕ) → IsOfRun messages error };
+
     fn from(_error: AllocError) -> RunError {
         RunError::Tool(ToolError::Memory)
     }
@@ -57,6 +70,8 @@ impl From<ToolError> for RunError {
 }
 
 impl From<RecordError> for RunError {
+    ghost from_gives = { λ _ error. (messages : ℕ) → IsOfRun messages error };
+
     fn from(error: RecordError) -> RunError {
         match error {
             RecordError::Memory => RunError::Tool(ToolError::Memory),

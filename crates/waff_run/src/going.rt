@@ -11,8 +11,8 @@
 ghost use Rattle.std.specs.Prelude.{◌≡◌, IfOk, MatchOption, MatchResult};
 ghost use Rattle.waff_line.specs.Lined.{course_in};
 ghost use Rattle.waff_line.specs.Machine.{Course, IsRunning, Steps, opening};
+ghost use Rattle.waff_line.specs.Turns.{AreReached, no_course};
 ghost use Rattle.waff_line.specs.declared.event.Event.TheVariants.{Begin, End};
-ghost use Rattle.waff_run.specs.Turns.{AreReached, no_course};
 
 use crate::fault::Stopped;
 use crate::perform::{Room, perform};

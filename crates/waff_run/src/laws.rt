@@ -10,7 +10,9 @@ ghost use Rattle.waff_run.specs.Named.{AreEnds, ListsSpots};
 ghost use Rattle.waff_run.specs.PlaceLaws.{CellsAreApart, CellsLieInFiles, FilesAreApart};
 ghost use Rattle.waff_run.specs.PlaceLaws.{FilesHaveOneOwner, PlacesAreFound};
 ghost use Rattle.waff_run.specs.Places.{Placing};
+ghost use Rattle.waff_run.specs.Same.{IsFirstOfTwo};
 ghost use Rattle.waff_run.specs.Syncing.{ListsOnce};
+ghost use Rattle.waff_run.specs.declared.same.Identity.{Identity};
 
 /// Two cells of a layout have no byte in common.
 pub fn cells_are_apart()
@@ -55,4 +57,9 @@ pub fn listed_is_one()
 /// How many operations from one on are one call is one number.
 pub fn call_is_one()
     ensures { (placing : Placing) (ops : List Op) (from : ℕ) → AtMostOne (AreOneCall placing ops from) }
+{}
+
+/// The first of files that is another of them too is one, where there is one.
+pub fn first_of_two_is_one()
+    ensures { (files : List Identity) → AtMostOne (IsFirstOfTwo files) }
 {}

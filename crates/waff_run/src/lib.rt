@@ -3,29 +3,52 @@
 //! The cells lie in files of a folder; threads do the operations of messages, each when the line of the run
 //! lets it begin. What they noted is a plan that obeys, whoever ran when. It is told by `waff_record`.
 //! - `running`: a run, from the accepted files to the two texts; `fault`: why there are none.
-//! - `workers`: the threads, over one lock round the line; `going`: the line, whose type says of which run it is, and
-//!   the tokens of its messages.
+//! - `workers`: the threads, over one lock round the line; `threads`: where they wait until all are there; `going`: the
+//!   line, whose type says of which run it is, and the tokens of its messages.
 //! - `perform`: the operations of a message; `calls`: how many of them are one call; `syncing`: which files are synced
 //!   at its end.
 //! - `store`: files, or what a test has in their place; `places`: in which file a cell lies, and where; `laws`: what
 //!   holds of that; `spots`: the cells that a trace names.
+//! - `opening`: what is opened and made before the run; `same`: which files are one; `part`: the file of the measured
+//!   trace before it is whole.
+//!
+//! What `run` answers of a store and a clock, whatever they do and however its threads take turns,
+//! are turns that events of the machine of `waff_line` leave, and so a plan (`AreRunTurns`). What
+//! `run_on` answers are the texts that tell such turns (`TellRun`): the plan in them is the one
+//! that the machine accepted. Where a cell lies is an equation (`spot_of`). Laws say what follows:
+//! no two cells have a byte in common (`CellsAreApart`), and the cells of one file have one owner
+//! (`FilesHaveOneOwner`), so messages that may run at once have no file in common
+//! (`FilesAreApart`). Calls of the crate's own promise to which length a file is brought at least
+//! (`AreEnds`), which cells are filled (`ListsSpots`), which files are synced (`ListsOnce`), and
+//! which file of a run is told as another of them too (`IsFirstOfTwo`). An error of a run tells
+//! nothing of its files but that memory was refused, a file could not be written, a message of the
+//! trace ran for too long, not all workers could be started, or the folder, a file in it or the plan
+//! is at fault (`IsOfRun`). That a call returns is not promised, nor that the turns tell what was
+//! done to the store. `tests/runs/run` shows the rest.
 #![tactic(auto)]
 
 mod calls;
 mod fault;
 mod going;
 pub mod laws;
+mod opening;
+mod part;
 mod perform;
 mod places;
 mod running;
+mod same;
 mod spots;
 mod store;
 mod syncing;
+mod threads;
 mod workers;
 
 pub use fault::{RunError, Stopped};
+pub use opening::{Entry, How, Opened, Opens, Site};
+pub use part::Part;
 pub use places::{Places, Spot};
 pub use running::{Settings, planned_length, run_on};
-pub use store::{Folder, Opens, Store, StoreFault};
+pub use same::Identity;
+pub use store::{Folder, Store, StoreFault};
 pub use syncing::Syncs;
 pub use workers::{Pace, run};

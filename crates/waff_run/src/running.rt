@@ -1,10 +1,11 @@
 //! A run, from the accepted files to the two texts.
 
-ghost use Rattle.std.specs.Prelude.{IfOk, string_bytes};
+ghost use Rattle.std.specs.Prelude.{ℕ, IfErr, IfOk, length, string_bytes};
 ghost use Rattle.waff_inputs.specs.Inputs.{instance_under};
+ghost use Rattle.waff_line.specs.Turns.{AreRunTurns, course_by};
 ghost use Rattle.waff_plan.specs.Bound.{IsWorkers};
+ghost use Rattle.waff_run.specs.Faults.{IsOfRun};
 ghost use Rattle.waff_run.specs.Texts.{TellRun};
-ghost use Rattle.waff_run.specs.Turns.{AreRunTurns, course_by};
 
 use crate::calls::longest_call;
 use crate::fault::{RunError, Stopped};
@@ -19,7 +20,7 @@ use std::marker::Sync;
 use std::rt::Clock;
 use std::sync::Wait;
 use std::thread::Threads;
-use waff_inputs::Accepted;
+use waff_inputs::{Accepted, ToolError};
 use waff_line::Turn;
 use waff_list::{Rule, list_plan_of};
 use waff_model::Trace;
@@ -49,9 +50,10 @@ pub fn run_on<R: Threads + Wait + Clock + Eprint + Sync, S: Store + Sync>(
     settings: &Settings<'_>,
 ) -> Result<Recorded, RunError>
     requires workers { IsWorkers settings.now.pace.workers }
-    ensures { IfOk result (λ ran. TellRun hierarchy.now
+    ensures told { IfOk result (λ ran. TellRun hierarchy.now
         (instance_under accepted.now.layout accepted.now.assigned accepted.now.trace)
         settings.now.pace.workers (string_bytes ran.measured) (string_bytes ran.text)) }
+    ensures refused { IfErr result (IsOfRun (length accepted.now.trace.messages)) }
 {
     let turns = turns_of(rt, alloc, accepted, store, places, settings)?;
     let workers = settings.pace.workers;
@@ -81,8 +83,9 @@ fn turns_of<R: Threads + Wait + Clock + Eprint + Sync, S: Store + Sync>(
     settings: &Settings<'_>,
 ) -> Result<Vec<Turn>, RunError>
     requires workers { IsWorkers settings.now.pace.workers }
-    ensures { IfOk result (λ turns. AreRunTurns (course_by (instance_under accepted.now.layout
+    ensures ran { IfOk result (λ turns. AreRunTurns (course_by (instance_under accepted.now.layout
         accepted.now.assigned accepted.now.trace) settings.now.pace.workers) turns.items) }
+    ensures refused { IfErr result (IsOfRun (length accepted.now.trace.messages)) }
 {
     let longest = longest_call(&accepted.trace, places);
     if settings.fill {
@@ -113,7 +116,9 @@ fn fill_all<S: Store>(
     accepted: &Accepted,
     store: &S,
     places: &Places,
-) -> Result<(), RunError> {
+) -> Result<(), RunError>
+    ensures { IfErr result (IsOfRun (length accepted.now.trace.messages)) }
+{
     let spots = spots(alloc, &accepted.trace, places)?;
     let mut room = Room::of(alloc, places, 1)?;
     match fill(store, spots.as_slice(), &mut room) {
@@ -123,14 +128,19 @@ fn fill_all<S: Store>(
 }
 
 /// Why a run that was stopped tells nothing.
-fn fault_of(alloc: Global, accepted: &Accepted, places: &Places, stopped: Stopped) -> RunError {
+fn fault_of(alloc: Global, accepted: &Accepted, places: &Places, stopped: Stopped) -> RunError
+    ensures { IsOfRun (length accepted.now.trace.messages) result }
+{
     match stopped {
-        Stopped::Memory => RunError::from(AllocError),
-        Stopped::Tick(m) => RunError::Tick(m),
+        Stopped::Memory => RunError::Tool(ToolError::Memory),
+        Stopped::Tick(m) if m >= 1 && m <= accepted.trace.len() => RunError::Tick(m),
+        Stopped::Tick(_) => RunError::Run,
+        Stopped::Threads(n) if n >= 1 => RunError::Threads(n),
+        Stopped::Threads(_) => RunError::Run,
         Stopped::Line => RunError::Run,
         Stopped::File(file) => match file_name(alloc, &accepted.layout, places, file) {
             Ok(name) => RunError::File(name),
-            Err(error) => RunError::from(error),
+            Err(_) => RunError::Tool(ToolError::Memory),
         },
     }
 }

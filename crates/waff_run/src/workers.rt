@@ -4,8 +4,8 @@ ghost use Rattle.std.specs.Bool.{OnTrue};
 ghost use Rattle.std.specs.Prelude.{◌≡◌, ℕ, All, IfOk, true};
 ghost use Rattle.waff_assign.specs.Case.{instance_of};
 ghost use Rattle.waff_line.specs.Machine.{IsCourse};
+ghost use Rattle.waff_line.specs.Turns.{AreRunTurns, course_by};
 ghost use Rattle.waff_plan.specs.Bound.{IsWorkers};
-ghost use Rattle.waff_run.specs.Turns.{AreRunTurns, course_by};
 
 use crate::fault::Stopped;
 use crate::going::{Failed, Going, Performed, RunOf, Taken};
@@ -13,6 +13,7 @@ use crate::perform::Room;
 use crate::places::Places;
 use crate::store::Store;
 use crate::syncing::Syncs;
+use crate::threads::Gate;
 use std::alloc::{AllocError, Global};
 use std::hint::spin_loop;
 use std::marker::{Brand, Send, Sync};
@@ -71,7 +72,7 @@ struct Shared<'r, 'a, S, C: RunOf> {
     changed: &'r Condvar,
     /// Whether a worker has left something to do that no other has taken up. One of those that look takes it down.
     offer: &'r AtomicBool,
-    begin: Instant,
+    gate: &'r Gate,
     pace: Pace,
 }
 
@@ -116,12 +117,10 @@ fn run_at<C: RunOf + Send + Sync, R: Threads + Wait + Clock + Eprint + Sync, S: 
     let Ok(rooms) = rooms(alloc, places, longest, pace.workers) else {
         return Err(Stopped::Memory);
     };
-    let Ok(begin) = Instant::now(rt) else {
-        return Err(Stopped::Memory);
-    };
     let locked = Mutex::new(Locked::<C>::of(Going::of(line)));
     let changed = Condvar::new();
     let offer = AtomicBool::new(false);
+    let gate = Gate::new();
     let shared = Shared {
         case,
         store,
@@ -130,14 +129,14 @@ fn run_at<C: RunOf + Send + Sync, R: Threads + Wait + Clock + Eprint + Sync, S: 
         locked: &locked,
         changed: &changed,
         offer: &offer,
-        begin,
+        gate: &gate,
         pace,
     };
-    let has_worked = work_all(rt, alloc, &shared, rooms.as_slice());
+    let started = work_all(rt, &shared, rooms.as_slice());
     let locked = locked.into_inner();
     clear_progress(rt, &locked);
-    if !has_worked {
-        return Err(Stopped::Memory);
+    if started < pace.workers {
+        return Err(Stopped::Threads(started));
     }
     ended(alloc, &locked)
 }
@@ -149,21 +148,25 @@ fn clear_progress<C: RunOf, R: Eprint>(rt: &R, locked: &Locked<'_, C>) {
     }
 }
 
-/// Works on each worker, and whether memory was there for it.
+/// Starts a thread for each worker but the first, which is this thread, and works on all of them. How many workers could
+/// be started: where it is not all, nothing is run.
 fn work_all<C: RunOf + Send + Sync, R: Threads + Wait + Clock + Eprint + Sync, S: Store + Sync>(
     rt: &R,
-    alloc: Global,
     shared: &Shared<'_, '_, S, C>,
     rooms: &[Mutex<Room>],
-) -> bool {
-    let workers = shared.pace.workers as usize;
-    thread::map_indices(
-        rt,
-        alloc,
-        workers,
-        &|at: usize| { work(rt, shared, rooms, at) },
-    )
-    .is_ok()
+) -> u32 {
+    thread::scope(thread::scope_env(), rt, |scope| {
+        let mut started = 1;
+        for at in 1..shared.pace.workers as usize {
+            if scope.spawn(move || work(rt, shared, rooms, at)).is_err() {
+                break;
+            }
+            started = u32::saturating_add(started, 1);
+        }
+        shared.gate.settle(rt, started == shared.pace.workers);
+        work(rt, shared, rooms, 0);
+        started
+    })
 }
 
 /// The room of each worker.
@@ -209,7 +212,7 @@ fn have_ended(turns: &[Turn]) -> bool
     turns.iter().all(|turn| turn.ended)
 }
 
-/// Runs messages on this worker until none is left.
+/// Runs messages on this worker until none is left, from when all workers are there.
 fn work<C: RunOf, R: Wait + Clock + Eprint, S: Store>(
     rt: &R,
     shared: &Shared<'_, '_, S, C>,
@@ -220,10 +223,13 @@ fn work<C: RunOf, R: Wait + Clock + Eprint, S: Store>(
         return;
     };
     let mut room = room.lock(rt);
+    let Some(begun) = shared.gate.wait(rt) else {
+        return;
+    };
     let worker = (at as u64).saturating_add(1).min(64) as u32;
     let mut last = None;
     for _ in rt.forever() {
-        let Some(taken) = take(rt, shared, worker, last) else {
+        let Some(taken) = take(rt, shared, &begun, worker, last) else {
             return;
         };
         match taken.perform(
@@ -263,8 +269,8 @@ fn look<'a, R: Wait, T>(rt: &R, locked: &'a Mutex<T>) -> MutexGuard<'a, T> {
 }
 
 /// Nanoseconds from the beginning of the run.
-fn nanos<R: Clock>(rt: &R, begin: &Instant) -> u64 {
-    match begin.elapsed(rt) {
+fn nanos<R: Clock>(rt: &R, begun: &Instant) -> u64 {
+    match begun.elapsed(rt) {
         Ok(since) => u64::try_from(since.as_nanos()).unwrap_or(0),
         Err(_) => 0,
     }
@@ -275,12 +281,13 @@ fn nanos<R: Clock>(rt: &R, begin: &Instant) -> u64 {
 fn take<C: RunOf, R: Wait + Clock + Eprint, S>(
     rt: &R,
     shared: &Shared<'_, '_, S, C>,
+    begun: &Instant,
     worker: u32,
     last: Option<Performed<C>>,
 ) -> Option<Taken<C>> {
     let mut guard = look(rt, shared.locked);
     if let Some(performed) = last {
-        let now = nanos(rt, &shared.begin);
+        let now = nanos(rt, begun);
         guard.end(performed, now / shared.pace.tick.max(1));
         if guard.is_telling(shared.pace.loud, now) {
             let done = guard.line.ended();
@@ -298,7 +305,7 @@ fn take<C: RunOf, R: Wait + Clock + Eprint, S>(
             shared.changed.notify_all();
             return None;
         }
-        let now = nanos(rt, &shared.begin);
+        let now = nanos(rt, begun);
         guard.arrive(now / shared.pace.tick.max(1));
         if let Some(taken) = guard.begin(worker) {
             wake(shared, &guard);
@@ -308,12 +315,12 @@ fn take<C: RunOf, R: Wait + Clock + Eprint, S>(
             continue;
         }
         if guard.is_soon(shared.pace.tick, now) {
-            guard = await_issue(rt, shared, guard);
+            guard = await_issue(rt, shared, begun, guard);
         } else if looked == Some(guard.line.ended()) {
-            guard = sleep(rt, shared, guard);
+            guard = sleep(rt, shared, begun, guard);
         } else {
             looked = Some(guard.line.ended());
-            guard = await_offer(rt, shared, guard, u64::MAX);
+            guard = await_offer(rt, shared, begun, guard, u64::MAX);
         }
     }
     unreachable!()
@@ -323,13 +330,14 @@ fn take<C: RunOf, R: Wait + Clock + Eprint, S>(
 fn await_issue<'b, 'a, C: RunOf, R: Wait + Clock, S>(
     rt: &R,
     shared: &Shared<'_, '_, S, C>,
+    begun: &Instant,
     guard: MutexGuard<'b, Locked<'a, C>>,
 ) -> MutexGuard<'b, Locked<'a, C>> {
     let mut guard = guard;
     let due = guard.line.next();
     guard.keeper = due;
     let until = due.saturating_mul(shared.pace.tick);
-    let mut guard = await_offer(rt, shared, guard, until);
+    let mut guard = await_offer(rt, shared, begun, guard, until);
     guard.leave(due);
     guard
 }
@@ -339,6 +347,7 @@ fn await_issue<'b, 'a, C: RunOf, R: Wait + Clock, S>(
 fn await_offer<'b, 'a, C: RunOf, R: Wait + Clock, S>(
     rt: &R,
     shared: &Shared<'_, '_, S, C>,
+    begun: &Instant,
     guard: MutexGuard<'b, Locked<'a, C>>,
     until: u64,
 ) -> MutexGuard<'b, Locked<'a, C>> {
@@ -346,7 +355,7 @@ fn await_offer<'b, 'a, C: RunOf, R: Wait + Clock, S>(
     for _ in 0..LOOKS {
         let is_offered = shared.offer.load(Ordering::SeqCst)
             && shared.offer.swap(false, Ordering::SeqCst);
-        if is_offered || nanos(rt, &shared.begin) >= until {
+        if is_offered || nanos(rt, begun) >= until {
             break;
         }
         spin_loop();
@@ -372,6 +381,7 @@ fn wake<C: RunOf, S>(shared: &Shared<'_, '_, S, C>, locked: &Locked<'_, C>) {
 fn sleep<'b, 'a, C: RunOf, R: Wait + Clock, S>(
     rt: &R,
     shared: &Shared<'_, '_, S, C>,
+    begun: &Instant,
     guard: MutexGuard<'b, Locked<'a, C>>,
 ) -> MutexGuard<'b, Locked<'a, C>> {
     let mut guard = guard;
@@ -381,7 +391,7 @@ fn sleep<'b, 'a, C: RunOf, R: Wait + Clock, S>(
         guard.keeper = due;
         let left = due
             .saturating_mul(shared.pace.tick)
-            .saturating_sub(nanos(rt, &shared.begin));
+            .saturating_sub(nanos(rt, begun));
         let rest = Duration::from_nanos(left.saturating_sub(EARLY));
         guard = shared.changed.wait_timeout(rt, guard, rest).0;
         guard.leave(due);

@@ -1,4 +1,4 @@
-//! The sample files, and what is printed for them: hierarchies H1 and C1, traces X1 and X2.
+//! The sample files: hierarchies H1 and C1, traces X1 and X2, and plans of them.
 #![tactic(auto)]
 
 /// The hierarchical sample: Serial; VolA and VolB below it; A0 and A1 below VolA; B0 and B1 below
@@ -99,16 +99,6 @@ m4,5,0,add g:4 1\n\
 m5,1,0,swap f:2 g:0\n\
 ";
 
-/// The affinities of the first trace under the hierarchical sample.
-pub const ASSIGN_H1_X1: &str = "message,name,affinity\n\
-1,m1,A0\n\
-2,m2,B0\n\
-3,m3,VolA\n\
-4,m4,B1\n\
-5,m5,Serial\n\
-6,m6,A0\n\
-";
-
 /// The unlimited plan of the first trace under the hierarchical sample.
 pub const PLAN_H1_X1: &str = "message,affinity,start,finish,worker\n\
 1,A0,0,4,-\n\
@@ -123,16 +113,6 @@ length,9\n\
 chain,1 3 5 6\n\
 cost,9\n\
 bound,9,9\n\
-";
-
-/// The unlimited plan of no message.
-pub const PLAN_H1_HEADER_ALONE: &str = "message,affinity,start,finish,worker\n\
-workers,-\n\
-total,0\n\
-length,0\n\
-chain,\n\
-cost,0\n\
-bound,0,0\n\
 ";
 
 /// The plan of the first trace under the hierarchical sample for two workers.
@@ -165,39 +145,4 @@ chain,3 5\n\
 release,10\n\
 cost,3\n\
 bound,13,13\n\
-";
-
-/// The comparison of the classical and the hierarchical sample on the first trace for two workers.
-pub const COMPARE_C1_H1_X1: &str = "workers,2\n\
-total,17\n\
-model,length,chain,list,listchain,left,right\n\
-classical,17,17,17,17,34,34\n\
-hierarchical,9,9,11,8,22,25\n\
-refines,yes\n\
-";
-
-/// The comparison of the hierarchical sample and a classical one that it does not refine.
-pub const COMPARE_C2_H1: &str = "workers,2\n\
-total,2\n\
-model,length,chain,list,listchain,left,right\n\
-classical,1,1,1,1,2,3\n\
-hierarchical,2,2,2,2,4,4\n\
-refines,no\n\
-";
-
-/// The state that the first trace leaves under the hierarchical sample.
-pub const STATE_H1_X1: &str = "cell,value\n\
-f:0,5\n\
-f:2,7\n\
-f:4,1\n\
-g:0,5\n\
-g:4,1\n\
-";
-
-/// The state that the second trace leaves under the hierarchical sample.
-pub const STATE_H1_X2: &str = "cell,value\n\
-f:0,5\n\
-f:2,7\n\
-g:0,5\n\
-g:4,1\n\
 ";

@@ -7,6 +7,11 @@
 //!
 //! Each line begins with one of the heads and ends with its only line feed (`AreHeadedLines`). What
 //! is wrong, the crates above say.
+//!
+//! Each line of an explanation below the first begins with one of the heads of the format, ends
+//! with a line feed and has no other. So no line feed of a file begins another line. The crates
+//! that make such lines add nothing to this: what their words say is tested, and `tests/commands`
+//! has the words of each refusal and each verdict.
 #![tactic(auto)]
 
 mod fields;

@@ -18,10 +18,9 @@ use Rattle.waff_figures.specs.declared.figures.Figures.{Figures}
 use Rattle.waff_figures.proofs.FigureLaws.{figures_are_one}
 use Rattle.waff_figures.proofs.LeastLaws.{follows_in}
 use Rattle.waff_inputs.specs.Inputs.{Accepts}
-use Rattle.waff_inputs.proofs.SameInput.{same_input, told_is_one}
+use Rattle.waff_inputs.proofs.SameInput.{same_input}
 use Rattle.waff_tool.specs.Figures.{IsSweepText, TellsSweep}
 use Rattle.waff_tool.proofs.PlanUniqueness.{IsSound, least_in_one, rule_in_one}
-use Rattle.waff_tool.proofs.TextUniqueness.{is_sound}
 
 -- the figures of plans by the same rule for the same number of workers are the same
 pub listed_same : (rule : Rule) (instance : Instance) → IsSound instance → (shortest : ℕ) (one other : Figures)
@@ -62,7 +61,7 @@ listed_is_one rule instance sound shortest workers one other p q =
     listed_same rule instance sound shortest (get_or one i d) (get_or other i d) (p.each i d inside) (q.each i d there) same)
 
 -- the sweep
-sweep_is_one : (rule : Rule) (workers : List ℕ) (instance : Instance) → IsSound instance → AtMostOne (TellsSweep rule workers instance)
+pub sweep_is_one : (rule : Rule) (workers : List ℕ) (instance : Instance) → IsSound instance → AtMostOne (TellsSweep rule workers instance)
 sweep_is_one rule workers instance sound text other p q =
     let work = work_of_instance instance in
     let same = least_in_one instance sound (start_of p.starts) (start_of q.starts) p.least q.least in
@@ -73,10 +72,6 @@ sweep_is_one rule workers instance sound text other p q =
     p.unlimited q.unlimited (follows_in instance) same p.are_unlimited
     (subst (λ n. AreFigures None work (least_in None instance n) (start_of q.starts) q.unlimited) (sym lengths) q.are_unlimited) in
     p.lines ∙ ap (λ fs. text_of (sweep_lines fs p.unlimited)) lists ∙ ap (λ f. text_of (sweep_lines q.listed f)) last ∙ sym q.lines
-
-pub sweep_text_is_one : (rule : Rule) (hierarchy_file trace_file workers : List ℕ) → AtMostOne (IsSweepText rule hierarchy_file trace_file workers)
-sweep_text_is_one rule hierarchy_file trace_file workers = told_is_one (TellsSweep rule workers) hierarchy_file trace_file
-    (λ i accepts. sweep_is_one rule workers i (is_sound hierarchy_file trace_file i accepts))
 
 -- what a sweep of the same bytes tells of an instance
 abbrev pub IsSwept : Rule → List ℕ → List ℕ → List Figures → Figures → Instance → Type 0

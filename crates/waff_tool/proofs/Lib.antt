@@ -22,6 +22,7 @@ pub mod ReplayRefusals
 mod ResultLemmas
 mod StateLines
 pub mod TextUniqueness
+pub mod ToldTexts
 pub mod WaitsTexts
 pub mod WhereTexts
 pub mod WorstTexts

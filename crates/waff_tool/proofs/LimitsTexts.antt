@@ -1,18 +1,15 @@
 -- The text of what limits a workload is one, and what it says of all plans.
 use Rattle.std.proofs.Common.{◌≡◌, ℕ, zero, suc, ◌<◌, ◌≤◌, ◌⊎◌, inl, inr, Bool, true, false, List, [], ◌∷◌, ◌++◌, All, length, map, Option, Some, None, IfSome, Contains, refl, sym, ◌∙◌, ap, subst, arith}
 use Rattle.std.proofs.lemmas.List.Elements.{Contains-append_cases}
-use Rattle.waff_model.specs.Layout.{Hierarchy}
 use Rattle.waff_model.specs.Messages.{Arrivals}
 use Rattle.waff_model.specs.Unique.{AtMostOne}
 use Rattle.waff_model.specs.Versions.{has_clients}
 use Rattle.waff_model.specs.declared.message.Version.{Version}
 use Rattle.waff_model.specs.declared.message.Version.TheVariants.{V1, V2, V3}
 use Rattle.waff_model.specs.Layout.{Space}
-use Rattle.waff_read.specs.Hierarchies.{hierarchy_of}
-use Rattle.waff_inputs.specs.Known.{newest}
+use Rattle.waff_inputs.specs.Known.{newest, trace_of}
 use Rattle.waff_read.proofs.LimitLaws.{layout_is_within_limits, trace_is_within_limits}
 use Rattle.waff_assign.specs.Instance.{Instance, before_in}
-use Rattle.waff_assign.specs.Lowest.{IsAssignment}
 use Rattle.waff_plan.specs.Instances.{work_of_instance}
 use Rattle.waff_plan.specs.LowerBound.{lower_bound_of}
 use Rattle.waff_plan.specs.Obeys.{IsLeast, Obeys}
@@ -27,22 +24,23 @@ use Rattle.waff_figures.specs.Sweep.{AreListed, IsListed}
 use Rattle.waff_figures.specs.Figures.{AreFigures}
 use Rattle.waff_figures.specs.declared.figures.Figures.{Figures}
 use Rattle.waff_limits.specs.Data.{IsMostOf, ticks_on}
-use Rattle.waff_limits.specs.Laws.{IsUnder, KeepsOrderWhere, greatest_limit}
+use Rattle.waff_limits.specs.Laws.{IsUnder, KeepsOrderWhere, PathIsReached, greatest_limit}
 use Rattle.waff_limits.specs.Limits.{AreLimits, limits_lines, ticks_of}
+use Rattle.waff_limits.specs.Writes.{ticks_shared}
+use Rattle.waff_limits.proofs.Sharing.{writes_below}
 use Rattle.waff_limits.specs.declared.limits.Limits.{Limits}
-use Rattle.waff_limits.proofs.LimitLaws.{cell_below, is_lower_bound, limits_are_one, none_below, not_below, shortest}
-use Rattle.waff_inputs.specs.Inputs.{Accepts, IsToldOf}
-use Rattle.waff_inputs.proofs.SameInput.{same_ok, told_is_one}
+use Rattle.waff_limits.proofs.LimitLaws.{cell_below, is_lower_bound, limits_are_one, most_of_is_one, none_below, not_below, shortest}
+use Rattle.waff_inputs.proofs.SameInput.{same_ok}
 use Rattle.waff_tool.specs.Figures.{IsSweepText}
-use Rattle.waff_tool.specs.LimitsText.{DataBoundsTexts, IsLimitsText, LimitsAreSwept, NoneIsBelowText, OrderIsBetween, OrderIsBetweenInText, OrderIsShortestInText, TellsLimits}
+use Rattle.waff_tool.specs.LimitsText.{DataBounds, DataBoundsTexts, IsLimitsText, LimitsAreSwept, NoneIsBelowText, OrderIsBetween, OrderIsBetweenInText, OrderIsShortestInText, TellsLimits, TreeIsReachedInText}
 use Rattle.waff_tool.proofs.CertificateLemmas.{busy_served}
 use Rattle.waff_tool.proofs.FigureUniqueness.{listed_is_one, told_swept}
 use Rattle.waff_tool.proofs.PlanUniqueness.{IsSound, least_in_one}
-use Rattle.waff_tool.proofs.TextUniqueness.{is_sound}
+use Rattle.waff_tool.proofs.ReadAlike.{read_alike}
 
 -- the text is one
-limits_are_told_once : (rule : Rule) (workers : List ℕ) (spaces : List Space) (instance : Instance) → IsSound instance → AtMostOne (TellsLimits rule workers spaces instance)
-limits_are_told_once rule workers spaces instance sound text other p q =
+pub limits_text_is_one : (rule : Rule) (workers : List ℕ) (spaces : List Space) (instance : Instance) → IsSound instance → AtMostOne (TellsLimits rule workers spaces instance)
+limits_text_is_one rule workers spaces instance sound text other p q =
     let work = work_of_instance instance in
     let same = least_in_one instance sound (start_of p.starts) (start_of q.starts) p.least q.least in
     let lengths = same_length work (start_of p.starts) (start_of q.starts) same in
@@ -54,60 +52,47 @@ limits_are_told_once rule workers spaces instance sound text other p q =
     ∙ ap (λ fs. text_of (limits_lines spaces instance.tree instance.trace.messages workers q.limits fs)) lists
     ∙ sym q.lines
 
-pub limits_text_is_one : (rule : Rule) (hierarchy_file trace_file workers : List ℕ) → AtMostOne (IsLimitsText rule hierarchy_file trace_file workers)
-limits_text_is_one rule hierarchy_file trace_file workers text other p q =
-    let layouts = same_ok (hierarchy_of hierarchy_file) p.layout q.layout p.is_layout q.is_layout in
-    let told = subst (λ (l : Hierarchy). IsToldOf (TellsLimits rule workers l.spaces) hierarchy_file trace_file other) (sym layouts) q.is_told in
-    told_is_one (TellsLimits rule workers p.layout.spaces) hierarchy_file trace_file
-    (λ i accepts. limits_are_told_once rule workers p.layout.spaces i (is_sound hierarchy_file trace_file i accepts)) text other p.is_told told
-
 -- what a text tells of
 module _ (rule : Rule) (hierarchy_file trace_file workers text : List ℕ) (told : IsLimitsText rule hierarchy_file trace_file workers text) where
   abbrev instance : Instance
-  instance = told.is_told.instance
+  instance = told.instance
 
-  accepts : Accepts hierarchy_file trace_file told.is_told.instance
-  accepts = told.is_told.accepts
-
-  layouts : accepts.layout ≡ told.layout
-  layouts = same_ok (hierarchy_of hierarchy_file) accepts.layout told.layout accepts.is_layout told.is_layout
-
-  under : IsUnder told.layout told.is_told.instance
+  under : IsUnder told.accepts.layout told.instance
   under = record {
-    is_layout = layout_is_within_limits hierarchy_file told.layout told.is_layout;
-    tree = ap (λ (l : Hierarchy). l.tree) (sym layouts) ∙ accepts.tree;
-    is_trace = trace_is_within_limits newest accepts.layout.spaces trace_file told.is_told.instance.trace accepts.is_trace;
-    fits = told.is_told.told.fits;
-    assignment = subst (λ (l : Hierarchy). IsAssignment l told.is_told.instance.trace.messages told.is_told.instance.assigned) layouts accepts.assignment;
+    is_layout = layout_is_within_limits hierarchy_file told.accepts.layout told.accepts.is_layout;
+    tree = told.accepts.tree;
+    is_trace = trace_is_within_limits newest told.accepts.layout.spaces trace_file told.instance.trace told.accepts.is_trace;
+    fits = told.told.fits;
+    assignment = told.accepts.assignment;
   }
 
   -- the least of plans with clients
   least_is : (limit : Option ℕ) (shortest_length : ℕ) (line : Figures) → has_clients instance.trace.version ≡ true → line.workers ≡ limit
-      → line.least ≡ least_in limit instance shortest_length → line.least ≡ greatest_limit line.workers told.is_told.told.limits
+      → line.least ≡ least_in limit instance shortest_length → line.least ≡ greatest_limit line.workers told.told.limits
   least_is limit shortest_length line clients for least =
       let bound : least_where (has_clients instance.trace.version) limit instance shortest_length ≡ lower_bound_of limit instance.tree instance.assigned (work_of_instance instance)
       = ap (λ b. least_where b limit instance shortest_length) clients in
       least ∙ bound
-      ∙ sym (is_lower_bound instance told.layout under limit (start_of told.is_told.told.starts) told.is_told.told.limits told.is_told.told.are_limits)
-      ∙ ap (λ w. greatest_limit w told.is_told.told.limits) (sym for)
+      ∙ sym (is_lower_bound instance told.accepts.layout under limit (start_of told.told.starts) told.told.limits told.told.are_limits)
+      ∙ ap (λ w. greatest_limit w told.told.limits) (sym for)
 
   least_listed : (sweep_rule : Rule) (shortest_length : ℕ) (line : Figures) → has_clients instance.trace.version ≡ true
-      → IsListed sweep_rule instance shortest_length line → line.least ≡ greatest_limit line.workers told.is_told.told.limits
+      → IsListed sweep_rule instance shortest_length line → line.least ≡ greatest_limit line.workers told.told.limits
   least_listed sweep_rule shortest_length line clients listed =
       least_is (Some listed.k) shortest_length line clients (ap (λ (f : Figures). f.workers) listed.figures_are.are) (ap (λ (f : Figures). f.least) listed.figures_are.are)
 
   least_unlimited : (shortest_length : ℕ) (start : ℕ → ℕ) (line : Figures) → has_clients instance.trace.version ≡ true
-      → AreFigures None (work_of_instance instance) (least_in None instance shortest_length) start line → line.least ≡ greatest_limit line.workers told.is_told.told.limits
+      → AreFigures None (work_of_instance instance) (least_in None instance shortest_length) start line → line.least ≡ greatest_limit line.workers told.told.limits
   least_unlimited shortest_length start line clients figures =
       least_is None shortest_length line clients (ap (λ (f : Figures). f.workers) figures.are) (ap (λ (f : Figures). f.least) figures.are)
 
   pub swept_least : (sweep_rule : Rule) (swept_workers starts : List ℕ) (shortest_length : ℕ) (listed : List Figures) (unlimited line : Figures)
       → has_clients instance.trace.version ≡ true → AreListed sweep_rule instance shortest_length swept_workers listed
       → AreFigures None (work_of_instance instance) (least_in None instance shortest_length) (start_of starts) unlimited
-      → Contains (listed ++ unlimited ∷ []) line → line.least ≡ greatest_limit line.workers told.is_told.told.limits
+      → Contains (listed ++ unlimited ∷ []) line → line.least ≡ greatest_limit line.workers told.told.limits
   swept_least sweep_rule swept_workers starts shortest_length listed unlimited line clients each last has = by (Contains-append_cases listed (unlimited ∷ []) line has)
     where
-      by : Contains listed line ⊎ Contains (unlimited ∷ []) line → line.least ≡ greatest_limit line.workers told.is_told.told.limits
+      by : Contains listed line ⊎ Contains (unlimited ∷ []) line → line.least ≡ greatest_limit line.workers told.told.limits
       by (inl (i, inside, is)) = least_listed sweep_rule shortest_length line clients (subst (λ f. IsListed sweep_rule instance shortest_length f) is (each.each i line inside))
       by (inr (zero, inside, is)) =
           least_unlimited shortest_length (start_of starts) line clients
@@ -123,48 +108,64 @@ module _ (rule : Rule) (hierarchy_file trace_file workers text : List ℕ) (told
   keeps_by V3 start without obeys = absurd (cc)
 
   listed_below : (figures : Figures) → has_clients instance.trace.version ≡ false
-      → IsListed rule instance (length_of (work_of_instance instance) (start_of told.is_told.told.starts)) figures → told.is_told.told.limits.order ≤ figures.length
+      → IsListed rule instance (length_of (work_of_instance instance) (start_of told.told.starts)) figures → told.told.limits.order ≤ figures.length
   listed_below figures without listed =
       let start = start_of listed.starts in
       let work = work_of_instance instance in
       let served = busy_served instance.trace.version rule instance.tree instance.assigned work listed.k start listed.list in
       let obeys = keeps_by instance.trace.version start without served.within.obeys in
-      let keeps : KeepsOrderWhere (has_clients instance.trace.version) instance (start_of told.is_told.told.starts) start
-      = subst (λ b. KeepsOrderWhere b instance (start_of told.is_told.told.starts) start) (sym without) obeys in
+      let keeps : KeepsOrderWhere (has_clients instance.trace.version) instance (start_of told.told.starts) start
+      = subst (λ b. KeepsOrderWhere b instance (start_of told.told.starts) start) (sym without) obeys in
       let long : figures.length ≡ length_of work start = ap (λ (f : Figures). f.length) listed.figures_are.are in
-      subst (λ n. told.is_told.told.limits.order ≤ n) (sym long)
-      (shortest instance told.layout under (start_of told.is_told.told.starts) start told.is_told.told.limits told.is_told.told.least told.is_told.told.are_limits keeps)
+      subst (λ n. told.told.limits.order ≤ n) (sym long)
+      (shortest instance told.accepts.layout under (start_of told.told.starts) start told.told.limits told.told.least told.told.are_limits keeps)
 
-  pub between : OrderIsBetween told.is_told.told.limits instance.trace.version told.is_told.told.listed
+  pub between : OrderIsBetween told.told.limits instance.trace.version told.told.listed
   between = record {
-    above = not_below instance told.layout under (start_of told.is_told.told.starts) told.is_told.told.limits told.is_told.told.least told.is_told.told.are_limits;
-    below = λ without i d inside. listed_below _ without (told.is_told.told.are_listed.each i d inside);
+    above = not_below instance told.accepts.layout under (start_of told.told.starts) told.told.limits told.told.least told.told.are_limits;
+    below = λ without i d inside. listed_below _ without (told.told.are_listed.each i d inside);
   }
 
 pub none_is_below_text : (rule : Rule) (hierarchy_file trace_file : List ℕ) → NoneIsBelowText rule hierarchy_file trace_file
 none_is_below_text rule hierarchy_file trace_file workers text limit other told known obeys =
-    none_below told.is_told.instance told.layout (under rule hierarchy_file trace_file workers text told) limit (start_of told.is_told.told.starts) other
-    told.is_told.told.limits known told.is_told.told.are_limits obeys
+    none_below told.instance told.accepts.layout (under rule hierarchy_file trace_file workers text told) limit (start_of told.told.starts) other
+    told.told.limits known told.told.are_limits obeys
 
 pub limits_are_swept : (rule sweep_rule : Rule) (hierarchy_file trace_file : List ℕ) → LimitsAreSwept rule sweep_rule hierarchy_file trace_file
 limits_are_swept rule sweep_rule hierarchy_file trace_file workers swept_workers text sweep line told swept clients has =
-    let work = work_of_instance told.is_told.instance in
-    let same = told_swept sweep_rule hierarchy_file trace_file swept_workers sweep told.is_told.instance told.is_told.accepts swept in
+    let work = work_of_instance told.instance in
+    let same = told_swept sweep_rule hierarchy_file trace_file swept_workers sweep told.instance told.accepts swept in
     swept_least rule hierarchy_file trace_file workers text told sweep_rule swept_workers swept.told.starts (length_of work (start_of swept.told.starts))
     swept.told.listed swept.told.unlimited line clients same.1 same.2 has
 
 pub order_is_shortest_in_text : (rule : Rule) (hierarchy_file trace_file : List ℕ) → OrderIsShortestInText rule hierarchy_file trace_file
 order_is_shortest_in_text rule hierarchy_file trace_file workers text other told keeps =
-    shortest told.is_told.instance told.layout (under rule hierarchy_file trace_file workers text told) (start_of told.is_told.told.starts) other
-    told.is_told.told.limits told.is_told.told.least told.is_told.told.are_limits keeps
+    shortest told.instance told.accepts.layout (under rule hierarchy_file trace_file workers text told) (start_of told.told.starts) other
+    told.told.limits told.told.least told.told.are_limits keeps
 
 pub order_is_between : (rule : Rule) (hierarchy_file trace_file : List ℕ) → OrderIsBetweenInText rule hierarchy_file trace_file
 order_is_between rule hierarchy_file trace_file workers text told = between rule hierarchy_file trace_file workers text told
 
+pub tree_is_reached_in_text : ((instance : Instance) → PathIsReached instance) → (rule : Rule) (hierarchy_file trace_file : List ℕ)
+    → TreeIsReachedInText rule hierarchy_file trace_file
+tree_is_reached_in_text law rule hierarchy_file trace_file workers text told free =
+    law told.instance told.accepts.layout (start_of told.told.starts) told.told.limits (under rule hierarchy_file trace_file workers text told) told.told.are_limits free
+
 pub data_bounds_texts : (rule other_rule : Rule) (hierarchy_file other_file trace_file : List ℕ) → DataBoundsTexts rule other_rule hierarchy_file other_file trace_file
-data_bounds_texts rule other_rule hierarchy_file other_file trace_file workers other_workers text other told again same =
-    let found = told.is_told.told.limits.cell in
-    let most : IsMostOf (ticks_on again.is_told.instance.trace.messages) found
-    = subst (λ (t : Arrivals). IsMostOf (ticks_on t.messages) found) same told.is_told.told.are_limits.cell in
-    subst (λ n. ticks_of found ≤ n) (sym again.is_told.told.are_limits.path.ticks)
-    (cell_below again.is_told.instance again.layout (under other_rule other_file trace_file other_workers other again) found most)
+data_bounds_texts rule other_rule hierarchy_file other_file trace_file workers other_workers text other told again spaces =
+    let found = told.told.limits.cell in
+    let same : told.instance.trace ≡ again.instance.trace
+    = same_ok (trace_of told.accepts.layout.spaces trace_file) told.instance.trace again.instance.trace told.accepts.is_trace
+    (read_alike newest told.accepts.layout.spaces again.accepts.layout.spaces trace_file spaces ∙ again.accepts.is_trace) in
+    let most : IsMostOf (ticks_on again.instance.trace.messages) found
+    = subst (λ (t : Arrivals). IsMostOf (ticks_on t.messages) found) same told.told.are_limits.cell in
+    let shared = told.told.limits.writes in
+    let most_shared : IsMostOf (ticks_shared again.instance.trace.messages) shared
+    = subst (λ (t : Arrivals). IsMostOf (ticks_shared t.messages) shared) same told.told.are_limits.writes in
+    record {
+      same_writes = most_of_is_one (ticks_shared again.instance.trace.messages) shared again.told.limits.writes most_shared again.told.are_limits.writes;
+      writes = writes_below again.instance.trace.messages shared again.told.limits.cell most_shared again.told.are_limits.cell;
+      same = most_of_is_one (ticks_on again.instance.trace.messages) found again.told.limits.cell most again.told.are_limits.cell;
+      below = subst (λ n. ticks_of found ≤ n) (sym again.told.are_limits.path.ticks)
+          (cell_below again.instance again.accepts.layout (under other_rule other_file trace_file other_workers other again) found most);
+    }

@@ -29,9 +29,8 @@ use Rattle.waff_plan_text.specs.Lines.{text_of}
 use Rattle.waff_plan_text.specs.Spelling.{no_worker, seat_of, unlimited_lines, worker_lines}
 use Rattle.waff_plan.proofs.Uniqueness.{totals_same}
 use Rattle.waff_inputs.specs.Inputs.{Accepts, instance_under}
-use Rattle.waff_inputs.proofs.SameInput.{layout_tree, same_ok, same_trace, told_is_one}
-use Rattle.waff_tool.specs.AssignText.{IsAssignText, TellsAssignment}
-use Rattle.waff_tool.specs.PlanText.{IsPlanTextFor, TellsLeastPlan, TellsPlan, TellsWorkerPlan}
+use Rattle.waff_inputs.proofs.SameInput.{layout_tree, same_ok, same_trace}
+use Rattle.waff_tool.specs.PlanText.{TellsLeastPlan, TellsPlan, TellsWorkerPlan}
 use Rattle.waff_tool.specs.Comparison.{AreModels, IsCompareText, IsCompared, IsMeasured, compare_lines, models_in}
 use Rattle.waff_tool.proofs.ComparisonRefusals.{models_read}
 use Rattle.waff_tool.specs.declared.measures.Measured.{Measured}
@@ -48,10 +47,6 @@ trace_runs layout file trace read =
 module _ (hierarchy_file trace_file : List ℕ) (instance : Instance) (accepts : Accepts hierarchy_file trace_file instance) where
   pub is_sound : IsSound instance
   is_sound = record { same = accepts.assignment.count; runs = trace_runs accepts.layout trace_file instance.trace accepts.is_trace }
-
--- the affinities
-pub assign_text_is_one : (hierarchy_file trace_file : List ℕ) → AtMostOne (IsAssignText hierarchy_file trace_file)
-assign_text_is_one hierarchy_file trace_file = told_is_one TellsAssignment hierarchy_file trace_file (λ i accepts text other p q. p ∙ sym q)
 
 -- the plan without workers, and by a rule for k workers
 module _ (instance : Instance) (sound : IsSound instance) where
@@ -79,13 +74,9 @@ module _ (instance : Instance) (sound : IsSound instance) where
       ∙ ap (λ c. text_of (worker_lines instance.trace.version instance.tree instance.assigned work k (start_of q.starts) q.workers c)) chains
       ∙ sym q.lines
 
-  plan_is_one : (rule : Rule) (workers : Option ℕ) → AtMostOne (TellsPlan rule workers instance)
+  pub plan_is_one : (rule : Rule) (workers : Option ℕ) → AtMostOne (TellsPlan rule workers instance)
   plan_is_one rule None text other p q = least_plan_is_one text other p q
   plan_is_one rule (Some k) text other p q = worker_plan_is_one rule k text other p q
-
-pub plan_text_is_one : (rule : Rule) (hierarchy_file trace_file : List ℕ) (workers : Option ℕ) → AtMostOne (IsPlanTextFor rule hierarchy_file trace_file workers)
-plan_text_is_one rule hierarchy_file trace_file workers = told_is_one (TellsPlan rule workers) hierarchy_file trace_file
-    (λ i accepts. plan_is_one i (is_sound hierarchy_file trace_file i accepts) rule workers)
 
 -- what is told of a trace under one hierarchy
 made_of : Kind → Totals → Totals → Measured

@@ -29,8 +29,7 @@ use Rattle.waff_figures.specs.declared.waits.Wait.{Wait}
 use Rattle.waff_figures.proofs.FigureLaws.{figures_moved}
 use Rattle.waff_figures.proofs.LeastLaws.{follows_in}
 use Rattle.waff_figures.proofs.WaitUnique.{alike_laws, rows_are_one}
-use Rattle.waff_inputs.proofs.SameInput.{told_is_one}
-use Rattle.waff_tool.specs.WaitsText.{IsPlanFor, IsWaitsText, TellsWaits, WaitsAreSwept}
+use Rattle.waff_tool.specs.WaitsText.{IsPlanFor, TellsWaits, WaitsAreSwept}
 use Rattle.waff_tool.proofs.FigureUniqueness.{told_swept}
 use Rattle.waff_tool.proofs.CertificateLemmas.{busy_served}
 use Rattle.waff_tool.proofs.PlanUniqueness.{IsSound, count_in, least_in_one, rule_in_one}
@@ -83,7 +82,7 @@ pub same_plan : (rule : Rule) (instance : Instance) → IsSound instance → (wo
 same_plan rule instance sound None start other p q = least_in_one instance sound start other p q
 same_plan rule instance sound (Some k) start other p q = rule_in_one instance sound rule k start other p q
 
-waits_are_one : (rule : Rule) (workers : Option ℕ) (grouping : Grouping) (instance : Instance) → IsSound instance
+pub waits_are_one : (rule : Rule) (workers : Option ℕ) (grouping : Grouping) (instance : Instance) → IsSound instance
     → AtMostOne (TellsWaits rule workers grouping instance)
 waits_are_one rule workers grouping instance sound text other p q =
     let work = work_of_instance instance in
@@ -92,11 +91,6 @@ waits_are_one rule workers grouping instance sound text other p q =
     let rows = rows_are_one instance.trace.version instance.tree instance.assigned work (are_alike grouping instance.assigned names) (start_of p.starts)
     (start_of q.starts) p.waits q.waits p.rows q.rows (count_in instance sound) (follows_in instance) plans p.are_waits q.are_waits p.are_rows q.are_rows in
     p.lines ∙ ap (λ rs. text_of (waits_lines grouping instance.tree instance.assigned names rs)) rows ∙ sym q.lines
-
-pub waits_text_is_one : (rule : Rule) (hierarchy_file trace_file : List ℕ) (workers : Option ℕ) (grouping : Grouping)
-    → AtMostOne (IsWaitsText rule hierarchy_file trace_file workers grouping)
-waits_text_is_one rule hierarchy_file trace_file workers grouping = told_is_one (TellsWaits rule workers grouping) hierarchy_file trace_file
-    (λ i accepts. waits_are_one rule workers grouping i (is_sound hierarchy_file trace_file i accepts))
 
 -- the lines of a sweep for as many workers are of the same plan
 module _ (rule : Rule) (instance : Instance) (sound : IsSound instance) (shortest : ℕ) (limit : Option ℕ) (start : ℕ → ℕ)

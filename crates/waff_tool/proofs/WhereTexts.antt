@@ -24,10 +24,9 @@ use Rattle.waff_figures.proofs.AddingUp.{cost_below_is_one}
 use Rattle.waff_figures.proofs.LeastLaws.{follows_in}
 use Rattle.waff_figures.proofs.PartLemmas.{parts_are_one}
 use Rattle.waff_figures.proofs.RowLemmas.{map_range_same}
-use Rattle.waff_inputs.proofs.SameInput.{told_is_one}
 use Rattle.waff_tool.specs.Certificates.{IsChained}
 use Rattle.waff_tool.specs.WaitsText.{IsPlanFor}
-use Rattle.waff_tool.specs.WhereText.{FiguresAreSwept, IsWhereText, TellsAffinities, TellsNames, TellsSpent, TellsWhere, told_parts}
+use Rattle.waff_tool.specs.WhereText.{FiguresAreSwept, TellsAffinities, TellsNames, TellsSpent, TellsWhere, told_parts}
 use Rattle.waff_tool.proofs.FigureUniqueness.{told_swept}
 use Rattle.waff_tool.proofs.PlanUniqueness.{IsSound, chain_in_one, least_in_one, rule_in_one}
 use Rattle.waff_tool.proofs.TextUniqueness.{is_sound}
@@ -97,16 +96,11 @@ module _ (instance : Instance) (sound : IsSound instance) where
     spent_is_one None columns text again p q = by_affinity columns text again p q
     spent_is_one (Some label) columns text again p q = by_label label columns text again p q
 
-  where_is_one : (rule : Rule) (workers : Option ℕ) (label : Option Label) (columns : Columns) → AtMostOne (TellsWhere rule workers label columns instance)
+  pub where_is_one : (rule : Rule) (workers : Option ℕ) (label : Option Label) (columns : Columns) → AtMostOne (TellsWhere rule workers label columns instance)
   where_is_one rule workers label columns text again p q =
       let (same, chains) = chained_is_one rule workers (start_of p.starts) (start_of q.starts) p.chain q.chain p.chained q.chained in
       spent_is_one (start_of p.starts) (start_of q.starts) same q.chain label columns text again
       (subst (λ c. TellsSpent label columns instance (start_of p.starts) c text) chains p.spent) q.spent
-
-pub where_text_is_one : (rule : Rule) (hierarchy_file trace_file : List ℕ) (workers : Option ℕ) (label : Option Label) (columns : Columns)
-    → AtMostOne (IsWhereText rule hierarchy_file trace_file workers label columns)
-where_text_is_one rule hierarchy_file trace_file workers label columns = told_is_one (TellsWhere rule workers label columns) hierarchy_file trace_file
-    (λ i accepts. where_is_one i (is_sound hierarchy_file trace_file i accepts) rule workers label columns)
 
 -- the waits of its lines are those of all messages
 told_waits : (label : Option Label) (instance : Instance) (start : ℕ → ℕ) (chain text : List ℕ) (told : TellsSpent label Figures instance start chain text)

@@ -3,7 +3,6 @@ use Rattle.std.proofs.Common.{◌≡◌, ℕ, Bool, List, sym, ◌∙◌, ap, su
 use Rattle.std.specs.Cmp.{IsEquivalence}
 use Rattle.waff_model.specs.Layout.{Hierarchy}
 use Rattle.waff_model.specs.Unique.{AtMostOne}
-use Rattle.waff_read.specs.Hierarchies.{hierarchy_of}
 use Rattle.waff_assign.specs.Instance.{Instance}
 use Rattle.waff_plan_text.specs.Lines.{text_of}
 use Rattle.waff_figures.specs.ByName.{message_names}
@@ -19,8 +18,7 @@ use Rattle.waff_limits.specs.declared.why_rows.Row.{Row}
 use Rattle.waff_limits.proofs.LiftRows.{kinds_are}
 use Rattle.waff_limits.proofs.LiftedLists.{lifts_are_one}
 use Rattle.waff_limits.proofs.WhyOrder.{rows_are_one}
-use Rattle.waff_inputs.proofs.SameInput.{same_input, same_ok}
-use Rattle.waff_tool.specs.WhyText.{IsWhyText, TellsWhy}
+use Rattle.waff_tool.specs.WhyText.{TellsWhy}
 
 module _ (grouping : Grouping) (layout : Hierarchy) (instance : Instance) where
   abbrev kind : Lift → Lift → Bool
@@ -50,17 +48,9 @@ module _ (grouping : Grouping) (layout : Hierarchy) (instance : Instance) where
         lines = lines;
       }
 
-  why_is_one : AtMostOne (TellsWhy grouping layout instance)
+  pub why_is_one : AtMostOne (TellsWhy grouping layout instance)
   why_is_one text other p q =
       let names = message_names instance.trace.messages in
       let lifts = lifts_are_one layout instance.trace.messages instance.assigned p.lifts q.lifts p.are_lifts q.are_lifts in
       let rows = rows_are_one kind q.lifts p.rows q.rows (subst (λ ls. AreRows kind ls p.rows) lifts p.are_rows) q.are_rows in
       p.lines ∙ ap (λ rs. text_of (why_lines grouping layout instance.assigned names rs)) rows ∙ sym q.lines
-
-pub why_text_is_one : (hierarchy_file trace_file : List ℕ) (grouping : Grouping) → AtMostOne (IsWhyText hierarchy_file trace_file grouping)
-why_text_is_one hierarchy_file trace_file grouping text other p q =
-    let layouts = same_ok (hierarchy_of hierarchy_file) p.layout q.layout p.is_layout q.is_layout in
-    let instances = same_input hierarchy_file trace_file p.instance q.instance p.accepts q.accepts in
-    let moved = subst (λ (l : Hierarchy). TellsWhy grouping l p.instance other) (sym layouts)
-    (subst (λ (i : Instance). TellsWhy grouping q.layout i other) (sym instances) q.told) in
-    why_is_one grouping p.layout p.instance text other p.told moved

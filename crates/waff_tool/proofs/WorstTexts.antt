@@ -18,9 +18,8 @@ use Rattle.waff_figures.specs.WorstText.{worst_lines}
 use Rattle.waff_figures.specs.declared.figures.Figures.{Figures}
 use Rattle.waff_figures.proofs.LeastLaws.{follows_in}
 use Rattle.waff_figures.proofs.WorstLaws.{first_is_greatest, worst_lines_are_one}
-use Rattle.waff_inputs.proofs.SameInput.{told_is_one}
 use Rattle.waff_tool.specs.WaitsText.{IsPlanFor}
-use Rattle.waff_tool.specs.WorstText.{IsWorstText, TellsWorst, WorstIsSwept}
+use Rattle.waff_tool.specs.WorstText.{TellsWorst, WorstIsSwept}
 use Rattle.waff_tool.proofs.FigureUniqueness.{told_swept}
 use Rattle.waff_tool.proofs.PlanUniqueness.{IsSound, count_in}
 use Rattle.waff_tool.proofs.TextUniqueness.{is_sound}
@@ -50,7 +49,7 @@ told_text rule workers most instance version timings starts text same_version sa
       lines = of.4;
     }
 
-worst_are_one : (rule : Rule) (workers : Option ℕ) (most : ℕ) (instance : Instance) → IsSound instance
+pub worst_are_one : (rule : Rule) (workers : Option ℕ) (most : ℕ) (instance : Instance) → IsSound instance
     → AtMostOne (TellsWorst rule workers most instance)
 worst_are_one rule workers most instance sound text other p q =
     let plans = same_plan rule instance sound workers (start_of p.starts) (start_of q.starts) p.planned q.planned in
@@ -58,11 +57,6 @@ worst_are_one rule workers most instance sound text other p q =
     (count_in instance sound) (follows_in instance) (start_of p.starts) (start_of q.starts) plans most p.waited q.waited p.worst q.worst
     p.are_waited q.are_waited p.are_worst q.are_worst in
     p.lines ∙ ap text_of lines ∙ sym q.lines
-
-pub worst_text_is_one : (rule : Rule) (hierarchy_file trace_file : List ℕ) (workers : Option ℕ) (most : ℕ)
-    → AtMostOne (IsWorstText rule hierarchy_file trace_file workers most)
-worst_text_is_one rule hierarchy_file trace_file workers most = told_is_one (TellsWorst rule workers most) hierarchy_file trace_file
-    (λ i accepts. worst_are_one rule workers most i (is_sound hierarchy_file trace_file i accepts))
 
 pub worst_is_swept : (rule : Rule) (hierarchy_file trace_file : List ℕ) (limit : Option ℕ) (most : ℕ) → WorstIsSwept rule hierarchy_file trace_file limit most
 worst_is_swept rule hierarchy_file trace_file limit most workers text sweep rest first line p q has for worst =

@@ -6,7 +6,6 @@ use Rattle.waff_model.specs.declared.message.Message.{Message}
 use Rattle.waff_assign.specs.Instance.{Instance}
 use Rattle.waff_assign.specs.Order.{affinity_name}
 use Rattle.waff_plan_text.specs.Lines.{text_of}
-use Rattle.waff_inputs.specs.Inputs.{IsToldOf}
 
 -- the header
 abbrev pub assign_header : List (List ℕ)
@@ -32,8 +31,3 @@ assign_lines instance =
 -- the text of an assignment
 abbrev pub TellsAssignment : Instance → List ℕ → Type 0
 TellsAssignment instance text = text ≡ text_of (assign_lines instance)
-
--- that of a hierarchy and a trace
-abbrev pub IsAssignText : List ℕ → List ℕ → List ℕ → Type 0
-IsAssignText hierarchy_file trace_file text =
-    IsToldOf TellsAssignment hierarchy_file trace_file text

@@ -16,6 +16,7 @@ pub mod PrintedSpaces
 pub mod Ranks
 pub mod Rate
 pub mod ReplayText
+pub mod Told
 pub mod Unique
 pub mod WaitsText
 pub mod WhereText

@@ -1,10 +1,9 @@
 -- What `limits` prints for the bytes of its files.
-use Rattle.std.specs.Prelude.{◌≡◌, ℕ, ◌≤◌, true, false, List, [], ◌∷◌, ◌++◌, All, Contains, Ok, Option, None, IfSome}
-use Rattle.waff_model.specs.Layout.{Hierarchy, Space}
+use Rattle.std.specs.Prelude.{◌≡◌, ℕ, ◌≤◌, true, false, List, [], ◌∷◌, ◌++◌, All, Contains, Option, None, IfSome}
+use Rattle.waff_model.specs.Layout.{SameSpaces, Space}
 use Rattle.waff_model.specs.Messages.{sizes_of}
 use Rattle.waff_model.specs.Versions.{has_clients}
 use Rattle.waff_model.specs.declared.message.Version.{Version}
-use Rattle.waff_read.specs.Hierarchies.{hierarchy_of}
 use Rattle.waff_assign.specs.Instance.{Instance}
 use Rattle.waff_plan.specs.Bound.{IsWorkers}
 use Rattle.waff_plan.specs.LowerBound.{ObeysInSomeOrder}
@@ -16,10 +15,10 @@ use Rattle.waff_list.specs.declared.rule.Rule.{Rule}
 use Rattle.waff_plan_text.specs.Lines.{text_of}
 use Rattle.waff_figures.specs.Sweep.{AreListed}
 use Rattle.waff_figures.specs.declared.figures.Figures.{Figures}
-use Rattle.waff_limits.specs.Laws.{KeepsOrderWhere, greatest_limit}
+use Rattle.waff_limits.specs.Laws.{KeepsOrderWhere, StartsAtOnce, greatest_limit}
 use Rattle.waff_limits.specs.Limits.{AreLimits, limits_lines, ticks_of}
 use Rattle.waff_limits.specs.declared.limits.Limits.{Limits}
-use Rattle.waff_inputs.specs.Inputs.{IsToldOf}
+use Rattle.waff_inputs.specs.Inputs.{IsToldUnder}
 use Rattle.waff_tool.specs.Figures.{IsSweepText}
 
 -- the text of what limits a trace over these spaces: what each of these numbers of workers, the clients, the cells, the tree and the
@@ -38,19 +37,18 @@ pub record TellsLimits (rule : Rule) (workers : List ℕ) (spaces : List Space) 
   pub lines : text ≡ text_of (limits_lines spaces instance.tree instance.trace.messages workers limits listed)
 
 -- that of a hierarchy and a trace
-pub record IsLimitsText (rule : Rule) (hierarchy_file trace_file workers text : List ℕ) : Type 0 where
-  pub layout : Hierarchy
-  pub is_layout : hierarchy_of hierarchy_file ≡ Ok layout
-  pub is_told : IsToldOf (TellsLimits rule workers layout.spaces) hierarchy_file trace_file text
+abbrev pub IsLimitsText : Rule → List ℕ → List ℕ → List ℕ → List ℕ → Type 0
+IsLimitsText rule hierarchy_file trace_file workers text =
+    IsToldUnder (λ layout. TellsLimits rule workers layout.spaces) hierarchy_file trace_file text
 
 -- no plan for as many workers, or without a limit on them, that obeys in whatever order is shorter than the greatest of the share of a
--- worker, the clients, the data and the tree
+-- worker, the clients, the writes, the data and the tree
 abbrev pub NoneIsBelowText : Rule → List ℕ → List ℕ → Type 0
 NoneIsBelowText rule hierarchy_file trace_file =
     (workers text : List ℕ) (limit : Option ℕ) (other : ℕ → ℕ) → (told : IsLimitsText rule hierarchy_file trace_file workers text)
     → IfSome limit IsWorkers
-    → ObeysInSomeOrder told.is_told.instance.tree told.is_told.instance.assigned (work_of_instance told.is_told.instance) limit other
-    → greatest_limit limit told.is_told.told.limits ≤ length_of (work_of_instance told.is_told.instance) other
+    → ObeysInSomeOrder told.instance.tree told.instance.assigned (work_of_instance told.instance) limit other
+    → greatest_limit limit told.told.limits ≤ length_of (work_of_instance told.instance) other
 
 -- that greatest is the `least` of a sweep, in the line of as many workers, where messages have clients
 abbrev pub LimitsAreSwept : Rule → Rule → List ℕ → List ℕ → Type 0
@@ -58,18 +56,18 @@ LimitsAreSwept rule sweep_rule hierarchy_file trace_file =
     (workers swept_workers text sweep : List ℕ) (line : Figures)
     → (told : IsLimitsText rule hierarchy_file trace_file workers text)
     → (swept : IsSweepText sweep_rule hierarchy_file trace_file swept_workers sweep)
-    → has_clients told.is_told.instance.trace.version ≡ true
+    → has_clients told.instance.trace.version ≡ true
     → Contains (swept.told.listed ++ swept.told.unlimited ∷ []) line
-    → line.least ≡ greatest_limit line.workers told.is_told.told.limits
+    → line.least ≡ greatest_limit line.workers told.told.limits
 
 -- no plan that keeps the order of the unlimited plan is shorter than `order`
 abbrev pub OrderIsShortestInText : Rule → List ℕ → List ℕ → Type 0
 OrderIsShortestInText rule hierarchy_file trace_file =
     (workers text : List ℕ) (other : ℕ → ℕ) → (told : IsLimitsText rule hierarchy_file trace_file workers text)
-    → KeepsOrderWhere (has_clients told.is_told.instance.trace.version) told.is_told.instance (start_of told.is_told.told.starts) other
-    → told.is_told.told.limits.order ≤ length_of (work_of_instance told.is_told.instance) other
+    → KeepsOrderWhere (has_clients told.instance.trace.version) told.instance (start_of told.told.starts) other
+    → told.told.limits.order ≤ length_of (work_of_instance told.instance) other
 
--- `order` is no less than `clients`, `data` and `tree`; and without clients no plan by the rule is shorter than it
+-- `order` is no less than `clients`, `writes`, `data` and `tree`; and without clients no plan by the rule is shorter than it
 pub record OrderIsBetween (limits : Limits) (version : Version) (listed : List Figures) : Type 0 where
   pub above : greatest_limit None limits ≤ limits.order
   pub below : has_clients version ≡ false → All (λ figures. limits.order ≤ figures.length) listed
@@ -77,12 +75,28 @@ pub record OrderIsBetween (limits : Limits) (version : Version) (listed : List F
 abbrev pub OrderIsBetweenInText : Rule → List ℕ → List ℕ → Type 0
 OrderIsBetweenInText rule hierarchy_file trace_file =
     (workers text : List ℕ) → (told : IsLimitsText rule hierarchy_file trace_file workers text)
-    → OrderIsBetween told.is_told.told.limits told.is_told.instance.trace.version told.is_told.told.listed
+    → OrderIsBetween told.told.limits told.instance.trace.version told.told.listed
 
--- under every hierarchy over which the file is the same trace, as over all with these spaces, `tree` is no less than the `data` of this one
+-- where no message has a release, a think time or a client, a plan that obeys in some order is as long as `tree`
+abbrev pub TreeIsReachedInText : Rule → List ℕ → List ℕ → Type 0
+TreeIsReachedInText rule hierarchy_file trace_file =
+    (workers text : List ℕ) → (told : IsLimitsText rule hierarchy_file trace_file workers text)
+    → All StartsAtOnce told.instance.trace.messages
+    → (other : ℕ → ℕ) × ObeysInSomeOrder told.instance.tree told.instance.assigned (work_of_instance told.instance) None other
+    × (length_of (work_of_instance told.instance) other ≡ told.told.limits.path.ticks)
+
+-- the cells of `writes` and `data` and their ticks are those under another hierarchy; `data` there is no less than `writes`, and `tree` no
+-- less than `data`
+pub record DataBounds (limits other : Limits) : Type 0 where
+  pub same_writes : limits.writes ≡ other.writes
+  pub writes : ticks_of limits.writes ≤ ticks_of other.cell
+  pub same : limits.cell ≡ other.cell
+  pub below : ticks_of limits.cell ≤ other.path.ticks
+
+-- they are so under every hierarchy with these spaces
 abbrev pub DataBoundsTexts : Rule → Rule → List ℕ → List ℕ → List ℕ → Type 0
 DataBoundsTexts rule other_rule hierarchy_file other_file trace_file =
     (workers other_workers text other : List ℕ) → (told : IsLimitsText rule hierarchy_file trace_file workers text)
     → (again : IsLimitsText other_rule other_file trace_file other_workers other)
-    → told.is_told.instance.trace ≡ again.is_told.instance.trace
-    → ticks_of told.is_told.told.limits.cell ≤ again.is_told.told.limits.path.ticks
+    → SameSpaces told.accepts.layout.spaces again.accepts.layout.spaces
+    → DataBounds told.told.limits again.told.limits

@@ -7,7 +7,6 @@ use Rattle.waff_order.specs.Needs.{AreNeeds, needs_of}
 use Rattle.waff_order.specs.Open.{AreChosen}
 use Rattle.waff_plan_text.specs.Lines.{text_of}
 use Rattle.waff_plan_text.specs.Spelling.{numbers_field}
-use Rattle.waff_inputs.specs.Inputs.{IsToldOf}
 
 -- the header
 abbrev pub needs_header : List (List ℕ)
@@ -30,8 +29,3 @@ pub record TellsNeeds (instance : Instance) (text : List ℕ) : Type 0 where
   pub are_needs : AreNeeds instance.tree instance.assigned needs
   pub are_chosen : AreChosen instance.tree instance.assigned needs
   pub lines : text ≡ text_of (needs_lines needs)
-
--- that of a hierarchy and a trace
-abbrev pub IsNeedsText : List ℕ → List ℕ → List ℕ → Type 0
-IsNeedsText hierarchy_file trace_file text =
-    IsToldOf TellsNeeds hierarchy_file trace_file text

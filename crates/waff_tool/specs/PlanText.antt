@@ -43,7 +43,3 @@ IsPlanText hierarchy_file trace_file text = IsToldOf TellsLeastPlan hierarchy_fi
 abbrev pub IsWorkerPlanText : Rule → List ℕ → List ℕ → ℕ → List ℕ → Type 0
 IsWorkerPlanText rule hierarchy_file trace_file k text =
     IsToldOf (TellsWorkerPlan rule k) hierarchy_file trace_file text
-
-abbrev pub IsPlanTextFor : Rule → List ℕ → List ℕ → Option ℕ → List ℕ → Type 0
-IsPlanTextFor rule hierarchy_file trace_file workers text =
-    IsToldOf (TellsPlan rule workers) hierarchy_file trace_file text

@@ -1,7 +1,6 @@
 -- What `why` prints for the bytes of its files.
-use Rattle.std.specs.Prelude.{◌≡◌, ℕ, List, Ok, length, sum_by}
+use Rattle.std.specs.Prelude.{◌≡◌, ℕ, List, length, sum_by}
 use Rattle.waff_model.specs.Layout.{Hierarchy}
-use Rattle.waff_read.specs.Hierarchies.{hierarchy_of}
 use Rattle.waff_assign.specs.Instance.{Instance}
 use Rattle.waff_plan_text.specs.Lines.{text_of}
 use Rattle.waff_figures.specs.ByName.{message_names}
@@ -12,10 +11,9 @@ use Rattle.waff_limits.specs.WhyLines.{why_lines}
 use Rattle.waff_limits.specs.WhyRows.{AreRows, same_kind}
 use Rattle.waff_limits.specs.declared.lifted.Lift.{Lift}
 use Rattle.waff_limits.specs.declared.why_rows.Row.{Row}
-use Rattle.waff_inputs.specs.Inputs.{Accepts}
 
--- the text of why messages run so high: a line for each kind of lifted messages, by affinity or by
--- affinity and name. It tells of every lifted message, once
+-- the text of why messages run so high: a line for each kind of those that run high, by affinity or by
+-- affinity and name. It tells of every one, once
 pub record TellsWhy (grouping : Grouping) (layout : Hierarchy) (instance : Instance)
     (text : List ℕ) : Type 0 where
   pub lifts : List Lift
@@ -28,12 +26,3 @@ pub record TellsWhy (grouping : Grouping) (layout : Hierarchy) (instance : Insta
   pub costs_add_up : sum_by (λ row. row.cost) rows ≡ sum_by (λ lift. lift.cost) lifts
   pub lines : text ≡ text_of (why_lines grouping layout instance.assigned
       (message_names instance.trace.messages) rows)
-
--- that of a hierarchy and a trace
-pub record IsWhyText (hierarchy_file trace_file : List ℕ) (grouping : Grouping)
-    (text : List ℕ) : Type 0 where
-  pub layout : Hierarchy
-  pub is_layout : hierarchy_of hierarchy_file ≡ Ok layout
-  pub instance : Instance
-  pub accepts : Accepts hierarchy_file trace_file instance
-  pub told : TellsWhy grouping layout instance text

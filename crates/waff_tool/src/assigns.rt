@@ -1,68 +1,49 @@
 //! The command `assign`, and the text of an assignment.
-ghost use Rattle.std.specs.Prelude.{◌≡◌, ℕ, List, [], ◌∷◌, IfOk};
+ghost use Rattle.std.specs.Prelude.{◌≡◌, [], ◌∷◌, IfOk};
 ghost use Rattle.std.specs.Prelude.{OnOk, decimal, length, map, string_bytes};
 ghost use Rattle.std.specs.List.{range_with_len};
 ghost use Rattle.waff_assign.specs.Case.{instance_of};
 ghost use Rattle.waff_plan_text.specs.Lines.{Adds, line_text, text_of};
 ghost use Rattle.waff_inputs.specs.Deliveries.{Delivers, Makes};
-ghost use Rattle.waff_inputs.specs.Inputs.{Refuses};
-ghost use Rattle.waff_tool.specs.Accepted.{IsAccepted};
-ghost use Rattle.waff_tool.specs.AssignText.{IsAssignText, TellsAssignment, assign_row};
+ghost use Rattle.waff_inputs.specs.Inputs.{IsToldUnder, Refuses};
+ghost use Rattle.waff_tool.specs.AssignText.{TellsAssignment, assign_row};
+ghost use Rattle.waff_tool.specs.Told.{Tells};
 
 use std::alloc::{AllocError, Global};
 use std::io::Write;
-use std::thread::Threads;
 use waff_assign::Case;
-use waff_inputs::{Accepted, ToolError, accept, accept_by_threads, deliver};
+use waff_figures::Told;
+use waff_inputs::{ToolError, accept, deliver};
 use waff_plan_text::push_field;
 
-/// Writes the affinity of each message of the trace under the hierarchy. Nothing is written before
-/// the whole text is made.
+/// Writes the affinity of each message of the trace under the hierarchy, for a caller without threads.
+/// Nothing is written before the whole text is made.
 pub fn assign_text<W: Write>(
     alloc: Global,
     hierarchy: &[u8],
     trace: &[u8],
     writer: &mut W,
 ) -> Result<(), ToolError>
-    ensures { Delivers (λ _ text. IsAssignText hierarchy.now trace.now text)
+    ensures { Delivers
+        (λ _ text. IsToldUnder (Tells Told.Assign) hierarchy.now trace.now text)
         (Refuses hierarchy.now trace.now) (W.contents writer.old) (W.contents writer.new) result }
 {
-    let accepted = accept(alloc, hierarchy, trace);
-    deliver(writer, made_assign_text(alloc, accepted))
+    deliver(writer, made_assign_text(alloc, hierarchy, trace))
 }
 
-/// Writes what `assign_text` writes; the trace is read by several threads where it is long.
-pub fn assign_text_by_threads<R: Threads + Sync, W: Write>(
-    rt: &R,
-    alloc: Global,
-    hierarchy: &[u8],
-    trace: &[u8],
-    writer: &mut W,
-) -> Result<(), ToolError>
-    ensures { Delivers (λ _ text. IsAssignText hierarchy.now trace.now text)
-        (Refuses hierarchy.now trace.now) (W.contents writer.old) (W.contents writer.new) result }
+fn made_assign_text(alloc: Global, hierarchy: &[u8], trace: &[u8]) -> Result<String, ToolError>
+    ensures { Makes
+        (λ text. IsToldUnder (Tells Told.Assign) hierarchy.now trace.now (string_bytes text))
+        (Refuses hierarchy.now trace.now) result }
 {
-    let accepted = accept_by_threads(rt, alloc, hierarchy, trace);
-    deliver(writer, made_assign_text(alloc, accepted))
-}
-
-/// The text of the assignment of what was read.
-fn made_assign_text(
-    alloc: Global,
-    accepted: Result<Accepted, ToolError>,
-) -> Result<String, ToolError>
-    ensures { (hierarchy trace : List ℕ) → IsAccepted hierarchy trace accepted
-        → Makes (λ text. IsAssignText hierarchy trace (string_bytes text))
-        (Refuses hierarchy trace) result }
-{
-    let accepted = accepted?;
-    let text = assigned_text(alloc, &accepted.case());
+    let accepted = accept(alloc, hierarchy, trace)?;
+    let text = assigned_text(alloc, &accepted.case()).map_err(ToolError::from);
     drop(accepted);
-    text.map_err(ToolError::from)
+    text
 }
 
 /// The lines of an assignment.
-fn assigned_text(alloc: Global, case: &Case<'_>) -> Result<String, AllocError>
+pub(crate) fn assigned_text(alloc: Global, case: &Case<'_>) -> Result<String, AllocError>
     ensures { IfOk result
         (λ text. TellsAssignment (instance_of case.now) (string_bytes text)) }
 {

@@ -2,7 +2,6 @@
 
 ghost use Rattle.std.specs.Prelude.{◌≡◌, IfOk, length};
 ghost use Rattle.waff_assign.specs.Case.{instance_of};
-ghost use Rattle.waff_plan.specs.Bound.{IsWorkers};
 ghost use Rattle.waff_plan.specs.Chain.{IsListed};
 ghost use Rattle.waff_plan.specs.Timetable.{timings_of, work_of_messages};
 ghost use Rattle.waff_plan.specs.Timing.{start_of};
@@ -15,7 +14,7 @@ use waff_assign::Case;
 use waff_list::{Rule, WorkerPlan, list_plan_of};
 use waff_plan::printed::{chain, linked_chain};
 use waff_plan::unlimited::linked_plan;
-use waff_plan::{Chain, Plan};
+use waff_plan::{Chain, Plan, Workers};
 
 /// An unlimited plan, with its printed chain.
 #[derive(Drop)]
@@ -53,9 +52,8 @@ pub fn bounded_plan(
     alloc: Global,
     case: &Case<'_>,
     rule: Rule,
-    k: u32,
+    k: Workers,
 ) -> Result<Bounded, AllocError>
-    requires workers { IsWorkers k }
     ensures version { IfOk result (λ found.
         found.made.plan.version ≡ case.now.trace.now.version) }
     ensures timings { IfOk result (λ found.
@@ -68,7 +66,7 @@ pub fn bounded_plan(
     ensures bounded { IfOk result (λ found. IsBounded rule (instance_of case.now) k
         (start_of found.made.plan.starts) found.chain.messages) }
 {
-    let made = list_plan_of(alloc, *case, rule, k)?;
+    let made = list_plan_of(alloc, *case, rule, k.number())?;
     let plan = made.plan();
     let _messages = plan.len();
     let chain = chain(alloc, case.tree, case.assigned, plan)?;

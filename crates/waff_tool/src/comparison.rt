@@ -17,9 +17,11 @@ use std::io::Write;
 use std::thread;
 use std::thread::Threads;
 use waff_assign::{Assigned, Case, assign, assign_by_threads};
+use waff_figures::workers_of;
 use waff_inputs::{ToolError, deliver, read_numbered, read_trace, read_trace_by_threads};
 use waff_model::{Kind, Layout, Trace};
 use waff_order::refines;
+use waff_plan::Workers;
 use waff_plan::laws::refined_is_no_longer;
 
 /// A classical and a hierarchical hierarchy.
@@ -50,7 +52,7 @@ pub fn compare_text<W: Write>(
 {
     deliver(
         writer,
-        made_compare_text(alloc, first, second, trace, workers),
+        made_compare_text(alloc, first, second, trace, workers_of(workers)),
     )
 }
 
@@ -62,10 +64,9 @@ pub fn compare_text_by_threads<R: Threads + Sync, W: Write>(
     first: &[u8],
     second: &[u8],
     trace: &[u8],
-    workers: u32,
+    workers: Workers,
     writer: &mut W,
 ) -> Result<(), ToolError>
-    requires workers { IsWorkers workers }
     ensures { Delivers (λ _ text. IsCompareText first.now second.now trace.now workers text)
         (RefusesComparison first.now second.now trace.now)
         (W.contents writer.old) (W.contents writer.new) result }
@@ -82,9 +83,8 @@ fn made_compare_text(
     first: &[u8],
     second: &[u8],
     trace: &[u8],
-    k: u32,
+    k: Workers,
 ) -> Result<String, ToolError>
-    requires workers { IsWorkers k }
     ensures { Makes (λ text. IsCompareText first.now second.now trace.now k (string_bytes text))
         (RefusesComparison first.now second.now trace.now) result }
 {
@@ -95,9 +95,13 @@ fn made_compare_text(
 }
 
 /// The text that compares the models on the trace of these bytes.
-fn models_text(alloc: Global, models: &Models, trace: &[u8], k: u32) -> Result<String, ToolError>
+fn models_text(
+    alloc: Global,
+    models: &Models,
+    trace: &[u8],
+    k: Workers,
+) -> Result<String, ToolError>
     requires same_spaces { SameSpaces models.now.classical.spaces models.now.hierarchical.spaces }
-    requires workers { IsWorkers k }
     ensures made { IfOk result (λ text. (first_file second_file : List ℕ)
         → AreModels first_file second_file models.now.classical models.now.hierarchical
         → IsCompareText first_file second_file trace.now k (string_bytes text)) }
@@ -117,9 +121,8 @@ fn made_by_threads<R: Threads + Sync>(
     first: &[u8],
     second: &[u8],
     trace: &[u8],
-    k: u32,
+    k: Workers,
 ) -> Result<String, ToolError>
-    requires workers { IsWorkers k }
     ensures { Makes (λ text. IsCompareText first.now second.now trace.now k (string_bytes text))
         (RefusesComparison first.now second.now trace.now) result }
 {
@@ -135,10 +138,9 @@ fn models_text_by_threads<R: Threads + Sync>(
     alloc: Global,
     models: &Models,
     trace: &[u8],
-    k: u32,
+    k: Workers,
 ) -> Result<String, ToolError>
     requires same_spaces { SameSpaces models.now.classical.spaces models.now.hierarchical.spaces }
-    requires workers { IsWorkers k }
     ensures made { IfOk result (λ text. (first_file second_file : List ℕ)
         → AreModels first_file second_file models.now.classical models.now.hierarchical
         → IsCompareText first_file second_file trace.now k (string_bytes text)) }
@@ -201,10 +203,9 @@ fn models_of(first: Layout, second: Layout) -> Result<Models, ToolError>
 }
 
 /// The text that compares the models on the trace for k workers.
-fn compared(alloc: Global, models: &Models, trace: &Trace, k: u32) -> Result<String, AllocError>
+fn compared(alloc: Global, models: &Models, trace: &Trace, k: Workers) -> Result<String, AllocError>
     requires fits { trace.now.sizes ≡ sizes_of models.now.classical.spaces }
     requires same_spaces { SameSpaces models.now.classical.spaces models.now.hierarchical.spaces }
-    requires workers { IsWorkers k }
     ensures { IfOk result (λ text.
         IsCompared models.now.classical models.now.hierarchical trace.now k (string_bytes text)) }
 {
@@ -219,11 +220,10 @@ fn compared_by_threads<R: Threads + Sync>(
     alloc: Global,
     models: &Models,
     trace: &Trace,
-    k: u32,
+    k: Workers,
 ) -> Result<String, AllocError>
     requires fits { trace.now.sizes ≡ sizes_of models.now.classical.spaces }
     requires same_spaces { SameSpaces models.now.classical.spaces models.now.hierarchical.spaces }
-    requires workers { IsWorkers k }
     ensures { IfOk result (λ text.
         IsCompared models.now.classical models.now.hierarchical trace.now k (string_bytes text)) }
 {
@@ -237,27 +237,24 @@ fn measure_both<R: Threads + Sync>(
     alloc: Global,
     models: &Models,
     trace: &Trace,
-    k: u32,
+    k: Workers,
 ) -> (Result<Under, AllocError>, Result<Under, AllocError>)
     requires fits { trace.now.sizes ≡ sizes_of models.now.classical.spaces }
     requires same_spaces { SameSpaces models.now.classical.spaces models.now.hierarchical.spaces }
-    requires workers { IsWorkers k }
     ensures classical { IfOk result.0
         (AreAssignedAndMeasured models.now.classical trace.now k) }
     ensures hierarchical { IfOk result.1
         (AreAssignedAndMeasured models.now.hierarchical trace.now k) }
 {
-    let (classical, hierarchical) = (&models.classical, &models.hierarchical);
+    let (classical, hierarchical, k) = (&models.classical, &models.hierarchical, &k);
     let under_classical = move || -> Result<Under, AllocError>
-        requires { IsSync R.row × (trace.now.sizes ≡ sizes_of classical.now.spaces)
-            × IsWorkers k }
-        ensures { IfOk result (AreAssignedAndMeasured classical.entry.now trace.entry.now k) }
-    { measure_by_threads(rt, alloc, classical, trace, k) };
+        requires { IsSync R.row × (trace.now.sizes ≡ sizes_of classical.now.spaces) }
+        ensures { IfOk result (AreAssignedAndMeasured classical.entry.now trace.entry.now k.entry.now) }
+    { measure_by_threads(rt, alloc, classical, trace, *k) };
     let under_hierarchical = move || -> Result<Under, AllocError>
-        requires { IsSync R.row × (trace.now.sizes ≡ sizes_of hierarchical.now.spaces)
-            × IsWorkers k }
-        ensures { IfOk result (AreAssignedAndMeasured hierarchical.entry.now trace.entry.now k) }
-    { measure_by_threads(rt, alloc, hierarchical, trace, k) };
+        requires { IsSync R.row × (trace.now.sizes ≡ sizes_of hierarchical.now.spaces) }
+        ensures { IfOk result (AreAssignedAndMeasured hierarchical.entry.now trace.entry.now k.entry.now) }
+    { measure_by_threads(rt, alloc, hierarchical, trace, *k) };
     thread::join(rt, under_classical, under_hierarchical)
 }
 
@@ -266,7 +263,7 @@ fn text_of_models(
     alloc: Global,
     models: &Models,
     trace: &Trace,
-    k: u32,
+    k: Workers,
     coarse: Result<Under, AllocError>,
     fine: Result<Under, AllocError>,
 ) -> Result<String, AllocError>
@@ -285,7 +282,7 @@ fn text_of_models(
     comparison_text(
         alloc,
         trace.version(),
-        k,
+        k.number(),
         &of_classical,
         &of_hierarchical,
         refined,
@@ -294,9 +291,13 @@ fn text_of_models(
 
 /// The affinities of the messages of the trace under a hierarchy, and what is told of it for k
 /// workers.
-fn measure_under(alloc: Global, layout: &Layout, trace: &Trace, k: u32) -> Result<Under, AllocError>
+fn measure_under(
+    alloc: Global,
+    layout: &Layout,
+    trace: &Trace,
+    k: Workers,
+) -> Result<Under, AllocError>
     requires fits { trace.now.sizes ≡ sizes_of layout.now.spaces }
-    requires workers { IsWorkers k }
     ensures { IfOk result (AreAssignedAndMeasured layout.now trace.now k) }
 {
     let assigned = assign(alloc, layout, trace)?;
@@ -320,10 +321,9 @@ fn measure_by_threads<R: Threads + Sync>(
     alloc: Global,
     layout: &Layout,
     trace: &Trace,
-    k: u32,
+    k: Workers,
 ) -> Result<Under, AllocError>
     requires fits { trace.now.sizes ≡ sizes_of layout.now.spaces }
-    requires workers { IsWorkers k }
     ensures { IfOk result (AreAssignedAndMeasured layout.now trace.now k) }
 {
     let assigned = assign_by_threads(rt, alloc, layout, trace)?;

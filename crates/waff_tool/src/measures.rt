@@ -2,7 +2,6 @@
 ghost use Rattle.std.specs.Prelude.{◌≡◌, ◌∷◌, IfOk, OnOk, string_bytes};
 ghost use Rattle.std.specs.List.{join_with_byte};
 ghost use Rattle.waff_assign.specs.Case.{instance_of};
-ghost use Rattle.waff_plan.specs.Bound.{IsWorkers};
 ghost use Rattle.waff_plan_text.specs.Lines.{Adds, line_text, text_of};
 ghost use Rattle.waff_tool.specs.Comparison.{AreCertifiedTotals, AreListTotals, IsMeasured};
 ghost use Rattle.waff_tool.specs.Comparison.{compare_lines, kind_field, measured_line};
@@ -15,7 +14,7 @@ use std::thread::Threads;
 use waff_assign::Case;
 use waff_list::Rule;
 use waff_model::{Kind, Layout, Version};
-use waff_plan::Totals;
+use waff_plan::{Totals, Workers};
 
 /// What is told of a trace under one hierarchy: of its unlimited plan and of its list plan.
 #[derive(Clone, Copy)]
@@ -30,10 +29,9 @@ pub fn measure(
     alloc: Global,
     layout: &Layout,
     case: &Case<'_>,
-    k: u32,
+    k: Workers,
 ) -> Result<Measured, AllocError>
     requires tree { case.now.tree.now ≡ layout.now.tree }
-    requires workers { IsWorkers k }
     ensures { IfOk result (IsMeasured layout.now case.now.assigned.now
         case.now.trace.now k) }
 {
@@ -50,20 +48,19 @@ pub fn measure_side_by_side<R: Threads + Sync>(
     alloc: Global,
     layout: &Layout,
     case: &Case<'_>,
-    k: u32,
+    k: Workers,
 ) -> Result<Measured, AllocError>
     requires tree { case.now.tree.now ≡ layout.now.tree }
-    requires workers { IsWorkers k }
     ensures { IfOk result (IsMeasured layout.now case.now.assigned.now
         case.now.trace.now k) }
 {
+    let k = &k;
     let without_workers = move || -> Result<Totals, AllocError>
         ensures { IfOk result (AreCertifiedTotals (instance_of case.entry.now)) }
     { unlimited_totals(alloc, case) };
     let for_workers = move || -> Result<Totals, AllocError>
-        requires { IsWorkers k }
-        ensures { IfOk result (AreListTotals (instance_of case.entry.now) k) }
-    { list_totals(alloc, case, k) };
+        ensures { IfOk result (AreListTotals (instance_of case.entry.now) k.entry.now) }
+    { list_totals(alloc, case, *k) };
     let (unlimited, listed) = thread::join(rt, without_workers, for_workers);
     Ok(Measured {
         kind: layout.kind(),
@@ -83,13 +80,12 @@ fn unlimited_totals(alloc: Global, case: &Case<'_>) -> Result<Totals, AllocError
 }
 
 /// What is told of the list plan for k workers.
-fn list_totals(alloc: Global, case: &Case<'_>, k: u32) -> Result<Totals, AllocError>
-    requires workers { IsWorkers k }
+fn list_totals(alloc: Global, case: &Case<'_>, k: Workers) -> Result<Totals, AllocError>
     ensures { IfOk result (AreListTotals (instance_of case.now) k) }
 {
     let bounded = bounded_plan(alloc, case, Rule::Arrival, k)?;
     let listed = bounded.made.plan();
-    let totals = listed.totals(Some(k), bounded.chain.messages());
+    let totals = listed.totals(Some(k.number()), bounded.chain.messages());
     drop(bounded);
     Ok(totals)
 }

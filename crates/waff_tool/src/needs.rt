@@ -2,56 +2,20 @@
 ghost use Rattle.std.specs.Prelude.{◌≡◌, ℕ, List, [], ◌∷◌, IfOk};
 ghost use Rattle.std.specs.Prelude.{OnOk, decimal, length, map, string_bytes};
 ghost use Rattle.std.specs.List.{range_with_len};
-ghost use Rattle.waff_model.specs.Unique.{AtMostOne};
 ghost use Rattle.waff_assign.specs.Case.{instance_of};
 ghost use Rattle.waff_plan_text.specs.Lines.{Adds, line_text, text_of};
 ghost use Rattle.waff_plan_text.specs.Spelling.{numbers_field};
-ghost use Rattle.waff_inputs.specs.Deliveries.{Delivers, Makes};
-ghost use Rattle.waff_inputs.specs.Inputs.{Refuses};
-ghost use Rattle.waff_tool.specs.NeedsText.{IsNeedsText, TellsNeeds};
-ghost use Rattle.waff_tool.specs.NeedsText.{needs_lines, needs_row};
+ghost use Rattle.waff_tool.specs.NeedsText.{TellsNeeds, needs_lines, needs_row};
 
 use std::alloc::{AllocError, Global};
-use std::io::Write;
-use std::thread::Threads;
 use waff_assign::Case;
-use waff_inputs::{ToolError, accept_by_threads, deliver};
 use waff_order::Needs;
 use waff_order::predecessors::needs;
 use waff_plan_text::{push_field, push_numbers};
 
-/// Writes the needs of each message of the trace under the hierarchy: who waits for them waits for
-/// each earlier message that excludes it. Nothing is written before the whole text is made.
-pub fn needs_text<R: Threads + Sync, W: Write>(
-    rt: &R,
-    alloc: Global,
-    hierarchy: &[u8],
-    trace: &[u8],
-    writer: &mut W,
-) -> Result<(), ToolError>
-    ensures { Delivers (λ _ text. IsNeedsText hierarchy.now trace.now text)
-        (Refuses hierarchy.now trace.now) (W.contents writer.old) (W.contents writer.new) result }
-{
-    deliver(writer, made_needs_text(rt, alloc, hierarchy, trace))
-}
-
-fn made_needs_text<R: Threads + Sync>(
-    rt: &R,
-    alloc: Global,
-    hierarchy: &[u8],
-    trace: &[u8],
-) -> Result<String, ToolError>
-    ensures { Makes (λ text. IsNeedsText hierarchy.now trace.now (string_bytes text))
-        (Refuses hierarchy.now trace.now) result }
-{
-    let accepted = accept_by_threads(rt, alloc, hierarchy, trace)?;
-    let text = needed_text(alloc, &accepted.case()).map_err(ToolError::from);
-    drop(accepted);
-    text
-}
-
-/// The text of the needs of the messages of a case.
-fn needed_text(alloc: Global, case: &Case<'_>) -> Result<String, AllocError>
+/// The text of the needs of the messages of a case: who waits for them waits for each earlier message
+/// that excludes it.
+pub(crate) fn needed_text(alloc: Global, case: &Case<'_>) -> Result<String, AllocError>
     ensures { IfOk result (λ text. TellsNeeds (instance_of case.now) (string_bytes text)) }
 {
     let needs = needs(alloc, case.tree, case.assigned)?;
@@ -90,9 +54,3 @@ fn push_needs_row(text: &mut String, message: u32, needs: &[u32]) -> Result<(), 
     push_numbers(text, needs)?;
     text.push('\n')
 }
-
-/// The text of the needs of a hierarchy and a trace is one.
-pub fn needs_text_is_one()
-    ensures equal { (hierarchy_file trace_file : List ℕ)
-        → AtMostOne (IsNeedsText hierarchy_file trace_file) }
-{}

@@ -8,7 +8,6 @@ ghost use Rattle.waff_model.specs.Messages.{sizes_of};
 ghost use Rattle.waff_model.specs.Unique.{AtMostOne};
 ghost use Rattle.waff_read.specs.Hierarchies.{hierarchy_of};
 ghost use Rattle.waff_assign.specs.Case.{instance_of};
-ghost use Rattle.waff_plan.specs.Bound.{IsWorkers};
 ghost use Rattle.waff_plan_text.specs.Lines.{Adds, line_text, text_of};
 ghost use Rattle.waff_inputs.specs.Deliveries.{Delivers, Makes};
 ghost use Rattle.waff_inputs.specs.Inputs.{Refuses, TellsOfFiles};
@@ -28,8 +27,8 @@ use waff_figures::{Figures, QUALITY, QualityFields, all_made, list_figures_for, 
 use waff_inputs::{MAX_RANKED, ToolError, deliver, read_numbered, read_trace_by_threads};
 use waff_list::Rule;
 use waff_model::{Kind, Layout, Trace};
-use waff_plan::Planned;
 use waff_plan::unlimited::plan;
+use waff_plan::{Planned, Workers};
 
 /// Hierarchies of which none has so many bytes are read by one thread.
 const LONG: usize = 16 * 1024;
@@ -53,12 +52,11 @@ pub fn rank_text<R: Threads + Sync, W: Write>(
     alloc: Global,
     hierarchies: &[Vec<u8>],
     trace: &[u8],
-    workers: u32,
+    workers: Workers,
     rule: Rule,
     writer: &mut W,
 ) -> Result<(), ToolError>
     requires files { length hierarchies.now ≤ MAX_RANKED }
-    requires workers { IsWorkers workers }
     ensures { Delivers (λ _ text.
         IsRankText rule (map (λ file. file.items) hierarchies.now) trace.now workers text)
         (RefusesRank (map (λ file. file.items) hierarchies.now) trace.now)
@@ -75,11 +73,10 @@ fn made_rank_text<R: Threads + Sync>(
     alloc: Global,
     hierarchies: &[Vec<u8>],
     trace: &[u8],
-    workers: u32,
+    workers: Workers,
     rule: Rule,
 ) -> Result<String, ToolError>
     requires files { length hierarchies.now ≤ MAX_RANKED }
-    requires workers { IsWorkers workers }
     ensures { Makes (λ text. IsRankText rule
         (map (λ file. file.items) hierarchies.now) trace.now workers (string_bytes text))
         (RefusesRank (map (λ file. file.items) hierarchies.now) trace.now) result }
@@ -177,10 +174,9 @@ fn text_under_all<R: Threads + Sync>(
     alloc: Global,
     layouts: &[Layout],
     trace: &[u8],
-    k: u32,
+    k: Workers,
     rule: Rule,
 ) -> Result<String, ToolError>
-    requires workers { IsWorkers k }
     ensures made { IfOk result (λ text. (files : List (List ℕ)) → AreRead files layouts.now
         → IsRankText rule files trace.now k (string_bytes text)) }
     ensures refused { IfErr result (λ e. (files : List (List ℕ)) → AreRead files layouts.now
@@ -200,10 +196,9 @@ fn rank_all<R: Threads + Sync>(
     alloc: Global,
     layouts: &[Layout],
     trace: &[u8],
-    k: u32,
+    k: Workers,
     rule: Rule,
 ) -> Result<Vec<Ranked>, ToolError>
-    requires workers { IsWorkers k }
     ensures made { IfOk result (λ ranks. (files : List (List ℕ)) → AreRead files layouts.now
         → AllZip (IsRanked rule trace.now k) files ranks.items) }
     ensures refused { IfErr result (λ e. (files : List (List ℕ)) → AreRead files layouts.now
@@ -232,12 +227,11 @@ fn rank_over_one<R: Threads + Sync>(
     first: &Layout,
     layouts: &[Layout],
     trace: &[u8],
-    k: u32,
+    k: Workers,
     rule: Rule,
 ) -> Result<Vec<Ranked>, ToolError>
     requires first { slice_get layouts.now 0 ≡ Some first.now }
     requires same_spaces { All (HasSpacesOf first.now) layouts.now }
-    requires workers { IsWorkers k }
     ensures made { IfOk result (λ ranks. (files : List (List ℕ)) → AreRead files layouts.now
         → AllZip (IsRanked rule trace.now k) files ranks.items) }
     ensures refused { IfErr result (λ e. (files : List (List ℕ)) → AreRead files layouts.now
@@ -256,23 +250,22 @@ fn rank_side_by_side<R: Threads + Sync>(
     alloc: Global,
     layouts: &[Layout],
     trace: &Trace,
-    k: u32,
+    k: Workers,
     rule: Rule,
 ) -> Result<Vec<Ranked>, AllocError>
     requires fits { All (λ layout. trace.now.sizes ≡ sizes_of layout.spaces) layouts.now }
-    requires workers { IsWorkers k }
     ensures { IfOk result (λ ranks. AllZip (IsRankedOver rule trace.now k) layouts.now ranks.items) }
 {
+    let k = &k;
     let mut made = vec![in alloc; None; layouts.len()]?;
     let one = move |place: usize, made: &mut Option<Ranked>|
         requires threads { IsSync R.row }
         requires place { place < length layouts.now }
         requires fits { All (λ layout. trace.now.sizes ≡ sizes_of layout.spaces) layouts.now }
-        requires workers { IsWorkers k }
         ensures { IfSome made.new (λ ranked. (layout : Hierarchy)
             → slice_get layouts.entry.now place ≡ Some layout
-            → IsRankedOver rule trace.entry.now k layout ranked) }
-    { *made = rank_assigned(rt, alloc, &layouts[place], trace, k, rule).ok() };
+            → IsRankedOver rule trace.entry.now k.entry.now layout ranked) }
+    { *made = rank_assigned(rt, alloc, &layouts[place], trace, *k, rule).ok() };
     let threads = sides(rt, trace.len());
     thread::for_each_mut(rt, made.as_mut_slice(), threads, &one);
     all_made(alloc, made.as_slice())
@@ -284,10 +277,9 @@ fn rank_in_turn<R: Threads + Sync>(
     alloc: Global,
     layouts: &[Layout],
     trace: &[u8],
-    k: u32,
+    k: Workers,
     rule: Rule,
 ) -> Result<Vec<Ranked>, ToolError>
-    requires workers { IsWorkers k }
     ensures made { IfOk result (λ ranks. (files : List (List ℕ)) → AreRead files layouts.now
         → AllZip (IsRanked rule trace.now k) files ranks.items) }
     ensures refused { IfErr result (λ e. (files : List (List ℕ)) → AreRead files layouts.now
@@ -316,10 +308,9 @@ fn rank<R: Threads + Sync>(
     alloc: Global,
     layout: &Layout,
     trace: &[u8],
-    k: u32,
+    k: Workers,
     rule: Rule,
 ) -> Result<Ranked, ToolError>
-    requires workers { IsWorkers k }
     ensures made { IfOk result (λ ranked. (file : List ℕ) → hierarchy_of file ≡ Ok layout.now
         → IsRanked rule trace.now k file ranked) }
     ensures refused { IfErr result (λ e. (file : List ℕ) → hierarchy_of file ≡ Ok layout.now
@@ -342,11 +333,10 @@ fn rank_assigned<R: Threads + Sync>(
     alloc: Global,
     layout: &Layout,
     trace: &Trace,
-    k: u32,
+    k: Workers,
     rule: Rule,
 ) -> Result<Ranked, AllocError>
     requires fits { trace.now.sizes ≡ sizes_of layout.now.spaces }
-    requires workers { IsWorkers k }
     ensures { IfOk result (IsRankedOver rule trace.now k layout.now) }
 {
     let assigned = assign_by_threads(rt, alloc, layout, trace)?;
@@ -365,10 +355,9 @@ fn rank_planned(
     alloc: Global,
     layout: &Layout,
     case: &Case<'_>,
-    k: u32,
+    k: Workers,
     rule: Rule,
 ) -> Result<Ranked, AllocError>
-    requires workers { IsWorkers k }
     ensures { IfOk result (IsRankedUnder rule layout.now.kind k (instance_of case.now)) }
 {
     let plan = plan(alloc, case.tree, case.assigned, case.trace)?;

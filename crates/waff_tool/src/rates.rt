@@ -20,7 +20,7 @@ use std::thread::Threads;
 use waff_assign::Case;
 use waff_check::{GivenPlan, Verdict};
 use waff_figures::figures::least_is_lower_bound;
-use waff_figures::{Figures, figures_of, push_rate};
+use waff_figures::{Figures, figures_of, limit_of, push_rate};
 use waff_inputs::{ToolError, deliver};
 use waff_plan::Planned;
 use waff_plan::unlimited::plan;
@@ -113,7 +113,7 @@ fn given_figures(alloc: Global, case: &Case<'_>, given: &GivenPlan) -> Result<Fi
         plan: &handed,
     };
     least_is_lower_bound();
-    let figures = figures_of(alloc, &planned, given.workers(), shortest);
+    let figures = figures_of(alloc, &planned, limit_of(given.workers()), shortest);
     drop(handed);
     figures
 }

@@ -2,11 +2,8 @@
 //! its contract is the law.
 
 ghost use Rattle.std.specs.Prelude.{ℕ, List, Option};
-ghost use Rattle.waff_list.specs.declared.rule.Rule.{Rule};
 ghost use Rattle.waff_model.specs.Unique.{AtMostOne};
 ghost use Rattle.waff_inputs.specs.Inputs.{TellsOfFiles};
-ghost use Rattle.waff_tool.specs.AssignText.{IsAssignText};
-ghost use Rattle.waff_tool.specs.PlanText.{IsPlanTextFor};
 ghost use Rattle.waff_tool.specs.Comparison.{IsCompareText, RefusesComparison};
 ghost use Rattle.waff_tool.specs.CheckText.{IsCheckText, RefusesCheck};
 ghost use Rattle.waff_tool.specs.ReplayText.{IsReplayText, RefusesReplay};
@@ -15,19 +12,6 @@ ghost use Rattle.waff_tool.specs.Unique.{CheckedIsNotRefused, ComparedIsNotRefus
 ghost use Rattle.waff_tool.specs.Unique.{ReplayedIsNotRefused};
 
 pub use waff_inputs::unique::{accepted_is_not_refused, refusal_is_one};
-
-/// The text of the affinities of a hierarchy and a trace is one.
-pub fn assign_text_is_one()
-    ensures equal { (hierarchy_file trace_file : List ℕ)
-        → AtMostOne (IsAssignText hierarchy_file trace_file) }
-{}
-
-/// The text of the plan of a hierarchy and a trace by a rule is one, for each number of workers and
-/// without.
-pub fn plan_text_is_one()
-    ensures equal { (rule : Rule) (hierarchy_file trace_file : List ℕ) (workers : Option ℕ)
-        → AtMostOne (IsPlanTextFor rule hierarchy_file trace_file workers) }
-{}
 
 /// The text of the comparison of two hierarchies on a trace is one.
 pub fn compare_text_is_one()

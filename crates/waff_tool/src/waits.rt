@@ -1,80 +1,28 @@
 //! Who waits for whom.
 ghost use Rattle.std.specs.Prelude.{◌<◌, ℕ, List, Option, IfOk};
-ghost use Rattle.std.specs.Prelude.{None, Some, IfSome, length, string_bytes};
-ghost use Rattle.waff_model.specs.Unique.{AtMostOne};
+ghost use Rattle.std.specs.Prelude.{None, Some, length, string_bytes};
 ghost use Rattle.waff_assign.specs.Case.{instance_of};
-ghost use Rattle.waff_plan.specs.Bound.{IsWorkers};
-ghost use Rattle.waff_inputs.specs.Deliveries.{Delivers, Makes};
-ghost use Rattle.waff_inputs.specs.Inputs.{Refuses};
-ghost use Rattle.waff_tool.specs.WaitsText.{IsWaitsText, TellsWaits, WaitsAreSwept};
+ghost use Rattle.waff_tool.specs.WaitsText.{TellsWaits, WaitsAreSwept};
 
 use std::alloc::{AllocError, Global};
-use std::io::Write;
-use std::thread::Threads;
 use waff_assign::Case;
 use waff_figures::wait_laws::ticks_add_up;
 use waff_figures::{Grouping, waiting_text};
-use waff_inputs::{ToolError, accept_by_threads, deliver};
 use waff_list::{Rule, list_plan_of};
-use waff_plan::Planned;
 use waff_plan::unlimited::plan;
+use waff_plan::{Planned, Workers};
 
-/// Writes who waits for whom in the plan of the trace under the hierarchy for this number of
-/// workers by this rule, or with no limit on them, where the rule changes nothing: for each pair of
-/// affinities, or for each pair of names and affinities, how many messages of the one wait for
-/// messages of the other or for a worker, and how long. Nothing is written before the whole text is
-/// made.
-pub fn waits_text<R: Threads + Sync, W: Write>(
-    rt: &R,
-    alloc: Global,
-    hierarchy: &[u8],
-    trace: &[u8],
-    workers: Option<u32>,
-    rule: Rule,
-    grouping: Grouping,
-    writer: &mut W,
-) -> Result<(), ToolError>
-    requires { IfSome workers IsWorkers }
-    ensures { Delivers (λ _ text. IsWaitsText rule hierarchy.now trace.now workers grouping text)
-        (Refuses hierarchy.now trace.now) (W.contents writer.old) (W.contents writer.new) result }
-{
-    deliver(
-        writer,
-        made_waits_text(rt, alloc, hierarchy, trace, workers, rule, grouping),
-    )
-}
-
-fn made_waits_text<R: Threads + Sync>(
-    rt: &R,
-    alloc: Global,
-    hierarchy: &[u8],
-    trace: &[u8],
-    workers: Option<u32>,
-    rule: Rule,
-    grouping: Grouping,
-) -> Result<String, ToolError>
-    requires { IfSome workers IsWorkers }
-    ensures { Makes
-        (λ text. IsWaitsText rule hierarchy.now trace.now workers grouping (string_bytes text))
-        (Refuses hierarchy.now trace.now) result }
-{
-    let accepted = accept_by_threads(rt, alloc, hierarchy, trace)?;
-    let text = waited_text(alloc, &accepted.case(), workers, rule, grouping).map_err(
-        ToolError::from,
-    );
-    drop(accepted);
-    text
-}
-
-/// The text of who waits for whom in the plan of a case.
-fn waited_text(
+/// The text of who waits for whom in the plan of a case for this number of workers by this rule, or with
+/// no limit on them, where the rule changes nothing: for each pair of affinities, or for each pair of
+/// names and affinities, how many messages of the one wait for messages of the other or for a worker,
+/// and how long.
+pub(crate) fn waited_text(
     alloc: Global,
     case: &Case<'_>,
-    workers: Option<u32>,
+    workers: Option<Workers>,
     rule: Rule,
     grouping: Grouping,
 ) -> Result<String, AllocError>
-    requires { IfSome workers IsWorkers }
     ensures { IfOk result (λ text.
         TellsWaits rule workers grouping (instance_of case.now) (string_bytes text)) }
 {
@@ -105,15 +53,14 @@ fn unlimited_waits(alloc: Global, case: &Case<'_>, grouping: Grouping) -> Result
 fn worker_waits(
     alloc: Global,
     case: &Case<'_>,
-    k: u32,
+    k: Workers,
     rule: Rule,
     grouping: Grouping,
 ) -> Result<String, AllocError>
-    requires { IsWorkers k }
     ensures { IfOk result (λ text.
         TellsWaits rule (Some k) grouping (instance_of case.now) (string_bytes text)) }
 {
-    let made = list_plan_of(alloc, *case, rule, k)?;
+    let made = list_plan_of(alloc, *case, rule, k.number())?;
     ticks_add_up();
     let plan = made.plan();
     let _messages = plan.len();
@@ -122,13 +69,6 @@ fn worker_waits(
     drop(made);
     text
 }
-
-/// The text of who waits for whom is one.
-pub fn waits_text_is_one()
-    ensures equal { (rule : Rule) (hierarchy_file trace_file : List ℕ) (workers : Option ℕ)
-        (grouping : Grouping)
-        → AtMostOne (IsWaitsText rule hierarchy_file trace_file workers grouping) }
-{}
 
 /// The ticks that it tells add up to the `waits` of each line of a sweep by the same rule for as many
 /// workers.

@@ -1,89 +1,33 @@
 //! Where the time goes.
-ghost use Rattle.std.specs.Prelude.{◌<◌, ℕ, List, None, Option, Some, IfOk, IfSome};
+ghost use Rattle.std.specs.Prelude.{◌<◌, ℕ, List, None, Option, Some, IfOk};
 ghost use Rattle.std.specs.Prelude.{length, string_bytes};
-ghost use Rattle.waff_model.specs.Unique.{AtMostOne};
 ghost use Rattle.waff_assign.specs.Case.{instance_of};
-ghost use Rattle.waff_plan.specs.Bound.{IsWorkers};
 ghost use Rattle.waff_plan.specs.Chain.{IsListed};
 ghost use Rattle.waff_plan.specs.Planned.{planned_starts, planned_work};
-ghost use Rattle.waff_inputs.specs.Deliveries.{Delivers, Makes};
-ghost use Rattle.waff_inputs.specs.Inputs.{Refuses};
-ghost use Rattle.waff_tool.specs.WhereText.{FiguresAreSwept, IsWhereText, TellsAffinities};
+ghost use Rattle.waff_tool.specs.WhereText.{FiguresAreSwept, TellsAffinities};
 ghost use Rattle.waff_tool.specs.WhereText.{TellsNames, TellsSpent, TellsWhere};
 
 use crate::certificates::{bounded_plan, certified_plan};
 use std::alloc::{AllocError, Global};
-use std::io::Write;
-use std::thread::Threads;
 use waff_assign::Case;
 use waff_figures::laws::{chain_adds_up, costs_add_up, names_add_up};
 use waff_figures::part_laws::{affinity_waits_add_up, label_waits_add_up};
 use waff_figures::{Columns, Label, affinities_text, names_text};
-use waff_inputs::{ToolError, accept_by_threads, deliver};
 use waff_list::Rule;
-use waff_plan::Planned;
+use waff_plan::{Planned, Workers};
 
-/// Writes where the time of the trace goes under the hierarchy, in the plan for this number of workers
-/// by this rule, or with no limit on them, where the rule changes nothing: for each affinity, or for each
-/// name or client of messages, how many messages there are and what they cost, and how much of that is on
-/// the chain of the plan; with figures also how many of them run at once, and how long they wait and
-/// take. Nothing is written before the whole text is made.
-pub fn where_text<R: Threads + Sync, W: Write>(
-    rt: &R,
-    alloc: Global,
-    hierarchy: &[u8],
-    trace: &[u8],
-    workers: Option<u32>,
-    rule: Rule,
-    label: Option<Label>,
-    columns: Columns,
-    writer: &mut W,
-) -> Result<(), ToolError>
-    requires { IfSome workers IsWorkers }
-    ensures { Delivers
-        (λ _ text. IsWhereText rule hierarchy.now trace.now workers label columns text)
-        (Refuses hierarchy.now trace.now) (W.contents writer.old) (W.contents writer.new) result }
-{
-    deliver(
-        writer,
-        made_where_text(rt, alloc, hierarchy, trace, workers, rule, label, columns),
-    )
-}
-
-fn made_where_text<R: Threads + Sync>(
-    rt: &R,
-    alloc: Global,
-    hierarchy: &[u8],
-    trace: &[u8],
-    workers: Option<u32>,
-    rule: Rule,
-    label: Option<Label>,
-    columns: Columns,
-) -> Result<String, ToolError>
-    requires { IfSome workers IsWorkers }
-    ensures { Makes
-        (λ text. IsWhereText rule hierarchy.now trace.now workers label columns
-        (string_bytes text))
-        (Refuses hierarchy.now trace.now) result }
-{
-    let accepted = accept_by_threads(rt, alloc, hierarchy, trace)?;
-    let text = spent_text(alloc, &accepted.case(), workers, rule, label, columns).map_err(
-        ToolError::from,
-    );
-    drop(accepted);
-    text
-}
-
-/// The text of where the time of a case goes.
-fn spent_text(
+/// The text of where the time of a case goes in its plan for this number of workers by this rule, or with
+/// no limit on them, where the rule changes nothing: for each affinity, or for each name or client of
+/// messages, how many messages there are and what they cost, and how much of that is on the chain of the
+/// plan; with figures also how many of them run at once, and how long they wait and take.
+pub(crate) fn spent_text(
     alloc: Global,
     case: &Case<'_>,
-    workers: Option<u32>,
+    workers: Option<Workers>,
     rule: Rule,
     label: Option<Label>,
     columns: Columns,
 ) -> Result<String, AllocError>
-    requires { IfSome workers IsWorkers }
     ensures { IfOk result (λ text.
         TellsWhere rule workers label columns (instance_of case.now) (string_bytes text)) }
 {
@@ -117,12 +61,11 @@ fn unlimited_text(
 fn worker_text(
     alloc: Global,
     case: &Case<'_>,
-    k: u32,
+    k: Workers,
     rule: Rule,
     label: Option<Label>,
     columns: Columns,
 ) -> Result<String, AllocError>
-    requires { IsWorkers k }
     ensures { IfOk result (λ text.
         TellsWhere rule (Some k) label columns (instance_of case.now) (string_bytes text)) }
 {
@@ -186,13 +129,6 @@ fn text_by_label(
     label_waits_add_up();
     names_text(alloc, planned, chain, label, columns)
 }
-
-/// The text of where the time of a hierarchy and a trace goes is one.
-pub fn where_text_is_one()
-    ensures equal { (rule : Rule) (hierarchy_file trace_file : List ℕ) (workers : Option ℕ)
-        (label : Option Label) (columns : Columns)
-        → AtMostOne (IsWhereText rule hierarchy_file trace_file workers label columns) }
-{}
 
 /// With figures the waits that it tells add up to the `waits` of each line of a sweep by the same rule
 /// for as many workers.

@@ -10,5 +10,6 @@ complete -c waff-report -l title -x -d 'the title of the page (the names of its 
 complete -c waff-report -l worst -x -d 'show so many of the worst messages (10)'
 complete -c waff-report -l from -x -d 'the tick at which the picture begins (0)'
 complete -c waff-report -l to -x -d 'the tick at which it ends (so that it shows about 300 messages)'
+complete -c waff-report -l pricings -x -a 'ten none' -d 'of several hierarchies say first what each gains over the first one, also at ten other pricings (ten, without this word too)'
 complete -c waff-report -l charts -r -d 'write each chart to a file in this folder too, as SVG'
 complete -c waff-report -l program -r -d 'the proved program'

@@ -1,9 +1,10 @@
 use Rattle.std.proofs.Common.{◌∙◌, ap, subst, string_bytes}
-use Rattle.std.proofs.lemmas.Result.{IfOk-weaker}
-use Rattle.waff_inputs.specs.Inputs.{instance_under}
+use Rattle.std.proofs.lemmas.Result.{IfErr-weaker, IfOk-weaker}
+use Rattle.waff_inputs.specs.Inputs.{Refuses, instance_under}
 use Rattle.waff_tool.specs.Ranks.{file_at}
-use Rattle.waff_answer.specs.Answers.{bytes_of, second}
-use Rattle.waff_answer.specs.Runs.{IsRunText}
+use Rattle.waff_answer.specs.Answers.{bytes_of, first, second}
+use Rattle.waff_answer.specs.Runs.{IsRunText, RefusesRun}
+use Rattle.waff_answer.proofs.Running.{refuses_run}
 use Rattle.waff_answer.proofs.runs.ran.Goals as goal
 
 pub returns-in-Ok : goal.returns-in-Ok
@@ -14,13 +15,21 @@ returns-in-Ok g c =
     let is = c.in-Ok.ensures.accepted in
     let k = c.args.task.now.words.workers in
     let files = bytes_of c.args.task.now.files.items in
-    IfOk-weaker c.ran_on_files-ran.result _ _
-    (λ ran texts. subst (λ h. IsRunText h (second files) k (string_bytes ran.text)) hierarchy
-    (subst (λ t. IsRunText c.file-hierarchy.result.now t k (string_bytes ran.text)) trace
-    (record {
-      instance = instance_under accepted.layout accepted.assigned accepted.trace;
-      accepts = is;
-      measured = string_bytes ran.measured;
-      texts = texts;
-    })))
-    c.ran_on_files-ran.ensures
+    let instance = instance_under accepted.layout accepted.assigned accepted.trace in
+    record {
+      told = IfOk-weaker c.ran_on_files-ran.result _ _
+          (λ ran texts. subst (λ h. IsRunText h (second files) k (string_bytes ran.told.text)) hierarchy
+          (subst (λ t. IsRunText c.file-hierarchy.result.now t k (string_bytes ran.told.text)) trace
+          (record {
+            instance = instance;
+            accepts = is;
+            measured = string_bytes ran.told.measured;
+            texts = texts;
+          })))
+          c.ran_on_files-ran.ensures.told;
+      refused = IfErr-weaker c.ran_on_files-ran.result _ _
+          (λ error of. subst (λ h. RefusesRun h (second files) error) hierarchy
+          (subst (λ t. RefusesRun c.file-hierarchy.result.now t error) trace
+          (refuses_run c.file-hierarchy.result.now c.file-trace.result.now instance is error of)))
+          c.ran_on_files-ran.ensures.refused;
+    }

@@ -1,11 +1,16 @@
 use Rattle.std.specs.Prelude.{string_bytes}
 use Rattle.waff_answer.specs.Answers.{bytes_of, first, second}
-use Rattle.waff_answer.proofs.Running.{has_part}
+use Rattle.waff_answer.proofs.Running.{has_part, refuses_write}
 use Rattle.waff_answer.proofs.runs.write_run.Goals as goal
 
 pub returns-in-Ok-clause-part : goal.returns-in-Ok-clause-part
 returns-in-Ok-clause-part g c =
     let files = bytes_of c.args.task.now.files.items in
-    has_part (first files) (second files) c.args.task.now.words.workers (string_bytes c.in-Ok.ran.text)
+    has_part (first files) (second files) c.args.task.now.words.workers (string_bytes c.in-Ok.field-0.told.text)
     (g.W.Write.contents c.args.out.now) (g.W.Write.contents c.write_texts-written.new.out) c.write_texts-written.result
-    c.in-Ok.ensures c.write_texts-written.ensures.part
+    c.in-Ok.ensures.told c.write_texts-written.ensures.fault c.write_texts-written.ensures.part
+
+pub returns-in-Ok-clause-refused : goal.returns-in-Ok-clause-refused
+returns-in-Ok-clause-refused g c =
+    let files = bytes_of c.args.task.now.files.items in
+    refuses_write (first files) (second files) c.write_texts-written.result c.write_texts-written.ensures.fault

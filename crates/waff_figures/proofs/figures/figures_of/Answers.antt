@@ -15,5 +15,5 @@ returns c =
           (subst (λ xs. IsPercentile 50 xs c.percentile.result) c.as_slice.ensures.value c.percentile.ensures);
       p99 = percentile_permuted 99 latencies sorted c.percentile-2.result c.in_ok-sorted.ensures.same
           (subst (λ xs. IsPercentile 99 xs c.percentile-2.result) c.as_slice-2.ensures.value c.percentile-2.ensures);
-      are = rw (c.len.ensures.count, c.total.ensures.total, c.length.ensures.length, c.in_ok-least.ensures, c.sum_of_waits.ensures, c.sum_of_latencies.ensures, c.greatest_latency.ensures) refl;
+      are = rw (c.len.ensures.count, c.total.ensures.total, c.length.ensures.length, c.in_ok-least.ensures, c.number_of-workers.ensures.same, c.sum_of_waits.ensures, c.sum_of_latencies.ensures, c.greatest_latency.ensures) refl;
     }

@@ -1,6 +1,7 @@
 use Rattle.std.proofs.Common.{Some, sym, ◌∙◌, ap, subst}
 use Rattle.std.proofs.lemmas.Result.{IfOk-weaker}
 use Rattle.waff_assign.specs.Case.{instance_of}
+use Rattle.waff_plan.specs.Bound.{IsWorkers}
 use Rattle.waff_plan.specs.Instances.{work_of_instance}
 use Rattle.waff_plan.specs.Timing.{start_of, work_of}
 use Rattle.waff_plan.specs.Work.{length_of}
@@ -30,7 +31,7 @@ returns-clause-listed c =
     let limit = Some c.args.k in
     let shortest = length_of (work_of plan.timings) (start_of plan.starts) in
     let least = rw (unlimited.version, unlimited.timings) at c.requires.least in
-    let bound = c.least_is_lower_bound.ensures.bound instance limit (start_of plan.starts) c.requires.workers c.len-affinities.ensures.tree case.lengths least in
+    let bound = c.least_is_lower_bound.ensures.bound instance limit (start_of plan.starts) (subst IsWorkers c.number-fits.ensures.number c.number-fits.ensures.is) c.len-affinities.ensures.tree case.lengths least in
     IfOk-weaker c.figures_of-figures.result (AreFigures limit work (least_in limit instance shortest) (start_of made.plan.starts)) _
     (λ figures told. record {
       k = c.args.k;

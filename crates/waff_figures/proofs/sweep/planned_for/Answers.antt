@@ -15,4 +15,4 @@ returns-in-Some-clause-follows c =
     let start = start_of made.plan.starts in
     served_in_order case.trace.now.version needs.no_clients c.args.rule case.tree.now case.assigned.now work c.args.k start
     (c.needs_make_the_same_plans.ensures case.tree.now case.assigned.now c.in-Some.needs.now work c.args.rule c.args.k start needs.are follows))
-    c.list_plan_by.ensures.follows
+    (rw c.number.ensures.number at c.list_plan_by.ensures.follows)

@@ -1,10 +1,20 @@
 use Rattle.std.proofs.Common.{None, codes}
 use Rattle.waff_limits.specs.Limits.{affinity_field, cell_field, client_field, limit_row, ticks_of}
-use Rattle.waff_limits.proofs.LimitLemmas.{four_lines, most_used_is_cell}
+use Rattle.waff_limits.specs.Writes.{ticks_shared}
+use Rattle.waff_limits.proofs.LimitLemmas.{five_lines, most_is_cell, most_used_is_cell}
+use Rattle.waff_limits.proofs.Sharing.{shared_within}
 use Rattle.waff_limits.proofs.text.push_bounds.Goals as goal
 
 pub push_data-requires : goal.push_data-requires
-push_data-requires c = record {
+push_data-requires c =
+    let trace = c.args.unlimited.now.case.trace.now in
+    record {
+      known = most_is_cell c.args.layout.now.spaces trace c.len-messages.ensures.trace c.requires.fits (ticks_shared trace.messages)
+          (shared_within trace.messages) c.args.limits.now.writes c.requires.limits.writes;
+    }
+
+pub push_data-requires-2 : goal.push_data-requires-2
+push_data-requires-2 c = record {
   known = most_used_is_cell c.args.layout.now.spaces c.args.unlimited.now.case.trace.now c.len-messages.ensures.trace c.requires.fits c.args.limits.now.cell c.requires.limits.cell;
 }
 
@@ -12,10 +22,12 @@ pub returns : goal.returns
 returns c =
     let limits = c.args.limits.now in
     let case = c.args.unlimited.now.case in
-    four_lines
+    let spaces = c.args.layout.now.spaces in
+    five_lines
     (limit_row (codes "clients") None limits.total limits.client.ticks (client_field case.trace.now.messages limits.client))
-    (limit_row (codes "data") None limits.total (ticks_of limits.cell) (cell_field c.args.layout.now.spaces limits.cell))
+    (limit_row (codes "writes") None limits.total (ticks_of limits.writes) (cell_field spaces limits.writes))
+    (limit_row (codes "data") None limits.total (ticks_of limits.cell) (cell_field spaces limits.cell))
     (limit_row (codes "tree") None limits.total limits.path.ticks (affinity_field case.tree.now limits.path))
     (limit_row (codes "order") None limits.total limits.order (codes "-"))
-    _ _ _ _ _ (rw c.client_name.ensures at c.in_ok-push_row.ensures) c.in_ok-push_data.ensures
+    _ _ _ _ _ _ (rw c.client_name.ensures at c.in_ok-push_row.ensures) c.in_ok-push_data.ensures c.in_ok-push_data-2.ensures
     (rw c.affinity_name.ensures at c.in_ok-push_row-2.ensures) c.in_ok-push_row-3.ensures

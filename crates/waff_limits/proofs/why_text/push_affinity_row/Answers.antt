@@ -2,7 +2,7 @@ use Rattle.std.proofs.Common.{ℕ, List, [], ◌∷◌, ◌++◌, decimal, strin
 use Rattle.std.proofs.lemmas.Result.{on_ok_weaker}
 use Rattle.waff_read.specs.Spellings.{cell_spelled}
 use Rattle.waff_assign.specs.Order.{affinity_name}
-use Rattle.waff_limits.specs.WhyLines.{owner_name}
+use Rattle.waff_limits.specs.WhyLines.{other_cell, other_owner, owner_name}
 use Rattle.waff_limits.proofs.WhyFields.{first_field}
 use Rattle.waff_limits.proofs.why_text.push_affinity_row.Goals as goal
 
@@ -12,8 +12,8 @@ returns c =
     let laid = c.args.laid.now in
     let layout = laid.layout.now in
     let assigned = laid.case.assigned.now in
-    let fields : List (List ℕ) = owner_name layout row.first.other ∷ decimal row.messages ∷ decimal row.cost ∷ decimal row.first.message
-    ∷ cell_spelled layout.spaces row.first.cell ∷ cell_spelled layout.spaces row.first.other ∷ [] in
+    let fields : List (List ℕ) = other_owner layout row.first ∷ decimal row.messages ∷ decimal row.cost ∷ decimal row.first.message
+    ∷ cell_spelled layout.spaces row.first.cell ∷ other_cell layout row.first ∷ [] in
     let before : List ℕ = string_bytes c.args.text.now in
     let one : List ℕ = string_bytes c.push_name.new.text in
     let now : List ℕ = string_bytes c.push_fields.new.text in

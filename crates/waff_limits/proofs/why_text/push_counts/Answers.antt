@@ -1,6 +1,7 @@
 use Rattle.std.proofs.Common.{ℕ, List, [], ◌∷◌, ◌++◌, decimal, string_bytes, ◌∙◌, ap}
 use Rattle.std.proofs.lemmas.Result.{on_ok_weaker}
 use Rattle.waff_read.specs.Spellings.{cell_spelled}
+use Rattle.waff_limits.specs.WhyLines.{other_cell}
 use Rattle.waff_limits.proofs.WhyFields.{first_field}
 use Rattle.waff_limits.proofs.why_text.push_counts.Goals as goal
 
@@ -9,7 +10,7 @@ returns c =
     let row = c.args.row.now in
     let spaces = c.args.layout.now.spaces in
     let cell : List ℕ = cell_spelled spaces row.first.cell in
-    let other : List ℕ = cell_spelled spaces row.first.other in
+    let other : List ℕ = other_cell c.args.layout.now row.first in
     let before : List ℕ = string_bytes c.args.text.now in
     let one : List ℕ = string_bytes c.push_field.new.text in
     let two : List ℕ = string_bytes c.push_field-2.new.text in

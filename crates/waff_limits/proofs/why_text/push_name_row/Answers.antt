@@ -3,7 +3,7 @@ use Rattle.std.proofs.lemmas.Result.{on_ok_weaker}
 use Rattle.waff_read.specs.Spellings.{cell_spelled}
 use Rattle.waff_assign.specs.Order.{affinity_name}
 use Rattle.waff_figures.specs.ByName.{label_at, message_names}
-use Rattle.waff_limits.specs.WhyLines.{owner_name}
+use Rattle.waff_limits.specs.WhyLines.{other_cell, other_owner, owner_name}
 use Rattle.waff_limits.proofs.WhyFields.{first_field}
 use Rattle.waff_limits.proofs.why_text.push_name_row.Goals as goal
 
@@ -14,8 +14,8 @@ returns c =
     let layout = laid.layout.now in
     let assigned = laid.case.assigned.now in
     let name : List ℕ = label_at (message_names laid.case.trace.now.messages) row.first.message in
-    let fields : List (List ℕ) = owner_name layout row.first.other ∷ decimal row.messages ∷ decimal row.cost ∷ decimal row.first.message
-    ∷ cell_spelled layout.spaces row.first.cell ∷ cell_spelled layout.spaces row.first.other ∷ [] in
+    let fields : List (List ℕ) = other_owner layout row.first ∷ decimal row.messages ∷ decimal row.cost ∷ decimal row.first.message
+    ∷ cell_spelled layout.spaces row.first.cell ∷ other_cell layout row.first ∷ [] in
     let before : List ℕ = string_bytes c.args.text.now in
     let one : List ℕ = string_bytes c.push_name.new.text in
     let two : List ℕ = string_bytes c.push_name-2.new.text in

@@ -3,9 +3,10 @@ use Rattle.std.specs.List.Sorted.{IsPermutation}
 use Rattle.std.proofs.lemmas.List.{length-append}
 use Rattle.std.proofs.lemmas.List.Elements.{All-contains, All-tail}
 use Rattle.std.proofs.lemmas.List.Sorted.{All-permutation, Contains-permutation, IsPermutation-map, IsPermutation-sym, IsPermutation-refl, length_permutation}
-use Rattle.waff_list.specs.Ready.{AreRanked, IsTakenNoLater, LeavesTaker, ranked_in}
+use Rattle.waff_waits.specs.Ready.{AreRanked, LeavesTaker, ranked_in}
+use Rattle.waff_list.specs.Ready.{IsTakenNoLater}
 use Rattle.waff_list.proofs.Filling.{parted_more}
-use Rattle.waff_list.proofs.Each.{contains_first, contains_mapped, contains_more, none_there, one_of}
+use Rattle.waff_waits.proofs.Each.{contains_first, contains_mapped, contains_more, none_there, one_of}
 use Rattle.waff_list.proofs.planner.gather.Goals as goal
 
 -- those that are left are kept with their priorities and issues

@@ -8,9 +8,8 @@ use Rattle.waff_list.specs.Orders.{IsServiceOrder}
 use Rattle.waff_list.specs.Placed.{Placed}
 use Rattle.waff_list.specs.Plannable.{Plannable}
 use Rattle.waff_list.specs.Planning.{IsStarted, placed_in, plannable_of}
-use Rattle.waff_list.specs.Ready.{ranked_in}
+use Rattle.waff_waits.specs.Ready.{ranked_in}
 use Rattle.waff_list.specs.Telling.{basis_of, key_in, priority_in}
-use Rattle.waff_list.specs.Trails.{trails}
 use Rattle.waff_list.proofs.ClientTasks.{small_of, thinks_of}
 use Rattle.waff_list.proofs.Filling.{IsStartedTo, started_all, started_filled, started_more, started_none, started_number}
 use Rattle.waff_list.proofs.IssuePlans.{follows_messages}
@@ -31,11 +30,10 @@ loop-at-init c =
         issued = k.issued;
         needs = k.waiting.needs;
         on = started_none (plannable_of task (basis_of w.service)) (order_of_waiting task p w [] k.issued c.args.now k.waiting) (follows_messages work task.earlier)
-            (placed_in p) p.finishes p.idle w.left.items (trails w.dependents) p.issues w.ready c.gather.new.ready k.issued k.waiting.needs c.args.now _ _ c.sort_unstable.new.self.items
+            (placed_in p) p.finishes p.idle w.waits p.issues w.ready c.gather.new.ready k.issued k.waiting.needs c.args.now _ _ c.sort_unstable.new.self.items
             (omega (arith, c.requires.tick)) c.requires.begun k.served k.issues k.waiting.kept k.waiting.ranked c.in_ok-gather.ensures.gathered c.sort_unstable.ensures.permutation;
         known = k.waiting.known;
         fits = k.waiting.fits;
-        linked = k.waiting.linked;
       };
       idle = omega arith;
     }
@@ -52,7 +50,7 @@ order c =
     let task = c.args.task.now in
     let w = c.args.waiting.now in
     let h = c.loop-at.invariant.on in
-    service_order w.service (work_of task.timings.items) h.issued h.needs (length w.dependents.links.items) h.fits h.known (small_of task)
+    service_order w.service (work_of task.timings.items) h.issued h.needs h.fits h.known (small_of task)
 
 known : (c : After-index) → IsNumber (work_of c.args.task.now.timings.items) c.index.result.now
 known c =
@@ -61,8 +59,7 @@ known c =
     let w = c.args.waiting.now in
     let h = c.loop-at.invariant.on in
     subst (λ m. IsNumber (work_of task.timings.items) m) (sym (is c))
-    (started_number (plannable_of task (basis_of w.service)) (order c) task.earlier (small_of task) (thinks_of task) c.args.progress.now.starts.items (placed_in p) p.finishes p.idle w.left.items
-    (trails w.dependents) p.issues w.ready c.gather.new.ready h.issued h.needs c.args.now c.sort_unstable.new.self.items c.loop-at.at h.on (inside c))
+    (started_number (plannable_of task (basis_of w.service)) (order c) task.earlier (small_of task) (thinks_of task) c.args.progress.now.starts.items (placed_in p) p.finishes p.idle w.waits p.issues w.ready c.gather.new.ready h.issued h.needs c.args.now c.sort_unstable.new.self.items c.loop-at.at h.on (inside c))
 
 pub start-requires-clause-number : goal.start-requires-clause-number
 start-requires-clause-number c = known (goal.at.start-requires-clause-number c).After-index
@@ -88,18 +85,16 @@ loop-at-preserved c =
     = subst (λ (xs : List ℕ). IsIssuedNext work (start_of xs) told.follower p.issues after.issues) told.starts told.issues in
     let placed : Placed = record { starts = set p.starts.items (m - 1) now; seats = set p.seats.items (m - 1) told.worker; order = p.order.items ++ m ∷ [] } in
     let placed_is : placed_in after ≡ placed = rw (told.starts, told.seats, told.order) refl in
-    let more = started_more plan (order i) task.earlier (small_of task) (thinks_of task) old (placed_in p) p.finishes p.idle w.left.items
-    (trails w.dependents) p.issues w.ready c.gather.new.ready h.issued h.needs now messages at h.on (inside i) c.requires.tick (IsNonDecreasingBy-from_sort (λ (x : ℕ). x) _ c.sort_unstable.ensures.sorted)
+    let more = started_more plan (order i) task.earlier (small_of task) (thinks_of task) old (placed_in p) p.finishes p.idle w.waits p.issues w.ready c.gather.new.ready h.issued h.needs now messages at h.on (inside i) c.requires.tick (IsNonDecreasingBy-from_sort (λ (x : ℕ). x) _ c.sort_unstable.ensures.sorted)
     told.worker after.idle told.idle.rest told.idle.least after.finishes told.finishes told.follower after.issues told.follows issued in
     record {
       on = record {
         issued = h.issued;
         needs = h.needs;
-        on = subst (λ n. IsStartedTo plan old (placed_in after) after.finishes after.idle w.left.items (trails w.dependents) after.issues w.ready c.gather.new.ready h.issued h.needs now messages n) next
-            (subst (λ (x : Placed). IsStartedTo plan old x after.finishes after.idle w.left.items (trails w.dependents) after.issues w.ready c.gather.new.ready h.issued h.needs now messages (suc at)) (sym placed_is) more);
+        on = subst (λ n. IsStartedTo plan old (placed_in after) after.finishes after.idle w.waits after.issues w.ready c.gather.new.ready h.issued h.needs now messages n) next
+            (subst (λ (x : Placed). IsStartedTo plan old x after.finishes after.idle w.waits after.issues w.ready c.gather.new.ready h.issued h.needs now messages (suc at)) (sym placed_is) more);
         known = h.known;
         fits = h.fits;
-        linked = h.linked;
       };
       idle = omega (arith, length_permutation _ _ told.idle.rest, c.loop-at.invariant.idle);
     }
@@ -118,9 +113,8 @@ returns-clause-filled c =
       | inl full ↦ inl (nil_from_length p.idle (omega (arith, full, length_permutation taken messages sorted, end, c.loop-at.invariant.idle, c.len.ensures)))
       | inr none ↦ inr (ap ranked_in none)
     ] in
-    started_filled (plannable_of task (basis_of w.service)) (service_order w.service (work_of task.timings.items) h.issued h.needs (length w.dependents.links.items) h.fits h.known (small_of task))
-    task.earlier (small_of task) (thinks_of task) c.args.progress.now.starts.items (placed_in p) p.finishes p.idle w.left.items
-    (trails w.dependents) p.issues w.ready c.gather.new.ready h.issued h.needs c.args.now messages c.loop-at.at h.on end (omega (arith, c.requires.tick)) c.len.result taken c.in_ok-gather.ensures.gathered sorted over
+    started_filled (plannable_of task (basis_of w.service)) (service_order w.service (work_of task.timings.items) h.issued h.needs h.fits h.known (small_of task))
+    task.earlier (small_of task) (thinks_of task) c.args.progress.now.starts.items (placed_in p) p.finishes p.idle w.waits p.issues w.ready c.gather.new.ready h.issued h.needs c.args.now messages c.loop-at.at h.on end (omega (arith, c.requires.tick)) c.len.result taken c.in_ok-gather.ensures.gathered sorted over
 
 pub returns-clause-kept : goal.returns-clause-kept
 returns-clause-kept c =
@@ -130,9 +124,8 @@ returns-clause-kept c =
     let h = c.loop-at.invariant.on in
     let messages = c.sort_unstable.new.self.items in
     let end : length messages ≤ c.loop-at.at = omega (arith, c.len-at-end.ensures, c.loop-at-test.false) in
-    let all = started_all (plannable_of task (basis_of w.service)) (service_order w.service (work_of task.timings.items) h.issued h.needs (length w.dependents.links.items) h.fits h.known (small_of task))
-    task.earlier (small_of task) (thinks_of task) c.args.progress.now.starts.items (placed_in p) p.finishes p.idle w.left.items
-    (trails w.dependents) p.issues w.ready c.gather.new.ready h.issued h.needs c.args.now messages c.loop-at.at h.on end in
+    let all = started_all (plannable_of task (basis_of w.service)) (service_order w.service (work_of task.timings.items) h.issued h.needs h.fits h.known (small_of task))
+    task.earlier (small_of task) (thinks_of task) c.args.progress.now.starts.items (placed_in p) p.finishes p.idle w.waits p.issues w.ready c.gather.new.ready h.issued h.needs c.args.now messages c.loop-at.at h.on end in
     record {
       issued = h.issued;
       served = all.served;
@@ -142,7 +135,6 @@ returns-clause-kept c =
         kept = all.kept;
         known = h.known;
         fits = h.fits;
-        linked = h.linked;
         ranked = c.in_ok-gather.ensures.gathered.ranked (priority_in task) (key_in w.service (work_of task.timings.items) (start_of p.starts.items)) all.ranked;
       };
     }

@@ -10,7 +10,7 @@ use Rattle.waff_order.specs.Needs.{needs_of}
 use Rattle.waff_list.specs.Tails.{AreRaised, tail_of}
 use Rattle.waff_list.specs.Planning.{Fits}
 use Rattle.waff_list.specs.declared.service.Service.TheVariants.{ByIssue}
-use Rattle.waff_list.proofs.DependentLemmas.{needs_inside}
+use Rattle.waff_list.proofs.Orders.{needs_inside}
 use Rattle.waff_list.proofs.TailMaking.{raised_none}
 use Rattle.waff_list.proofs.TailOrders.{HoldsThese, holds_followed, holds_needs, holds_none, tails_begin, tails_by, tails_step}
 use Rattle.waff_list.proofs.tails.tails.Goals as goal

@@ -4,4 +4,6 @@ use Rattle.waff_parse.proofs.FieldLaws.{five-some}
 use Rattle.waff_parse.proofs.fields.five_fields.Goals as goal
 
 pub returns : goal.returns
-returns c = sym (five-some (fields_of c.args.row.now) c.field.result.now c.field-2.result.now c.field-3.result.now c.field-4.result.now c.field-5.result.now (sym c.len.ensures ∙ c.if-len-ne5.false) c.field.ensures c.field-2.ensures c.field-3.ensures c.field-4.ensures c.field-5.ensures)
+returns c =
+    rw (c.field.ensures, c.field-2.ensures, c.field-3.ensures, c.field-4.ensures, c.field-5.ensures)
+    (sym (five-some (fields_of c.args.row.now) (sym c.len.ensures ∙ c.if-len-ne5.false)))

@@ -4,4 +4,4 @@ use Rattle.waff_parse.proofs.FieldLaws.{three-some}
 use Rattle.waff_parse.proofs.fields.three_fields.Goals as goal
 
 pub returns : goal.returns
-returns c = sym (three-some (fields_of c.args.row.now) c.field.result.now c.field-2.result.now c.field-3.result.now (sym c.len.ensures ∙ c.if-len-ne3.false) c.field.ensures c.field-2.ensures c.field-3.ensures)
+returns c = rw (c.field.ensures, c.field-2.ensures, c.field-3.ensures) (sym (three-some (fields_of c.args.row.now) (sym c.len.ensures ∙ c.if-len-ne3.false)))

@@ -4,4 +4,4 @@ use Rattle.waff_parse.proofs.FieldLaws.{two-some}
 use Rattle.waff_parse.proofs.fields.two_fields.Goals as goal
 
 pub returns : goal.returns
-returns c = sym (two-some (fields_of c.args.row.now) c.field.result.now c.field-2.result.now (sym c.len.ensures ∙ c.if-len-ne2.false) c.field.ensures c.field-2.ensures)
+returns c = rw (c.field.ensures, c.field-2.ensures) (sym (two-some (fields_of c.args.row.now) (sym c.len.ensures ∙ c.if-len-ne2.false)))

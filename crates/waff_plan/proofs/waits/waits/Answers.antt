@@ -6,13 +6,13 @@ use Rattle.waff_assign.specs.Order.{affinity_of}
 use Rattle.waff_plan.specs.ByStart.{started_at, walk_of}
 use Rattle.waff_plan.specs.Latest.{IsFound}
 use Rattle.waff_plan.specs.Serving.{chain_key, started_before}
-use Rattle.waff_plan.specs.Table.{IsTable}
 use Rattle.waff_plan.specs.Timetable.{starts_in, work_in}
 use Rattle.waff_plan.specs.Waits.{IsWait, wait_of}
 use Rattle.waff_plan.specs.Work.{IsAmongFirst, finish_of}
-use Rattle.waff_plan.proofs.ApartLaws.{noted_number, number_here, numbers_more, numbers_to}
+use Rattle.waff_plan.proofs.ApartLaws.{number_here}
 use Rattle.waff_plan.proofs.Followings.{is_wait}
 use Rattle.waff_plan.proofs.Latests.{found_same}
+use Rattle.waff_plan.proofs.Noted.{none_noted, noted_more}
 use Rattle.waff_plan.proofs.ServingLemmas.{each_runs}
 use Rattle.waff_plan.proofs.StartedLinks.{AreFirstLinks, all_links, before_noted, more_links, noted_before, sorts}
 use Rattle.waff_plan.proofs.Tables.{found_noted_at}
@@ -20,6 +20,8 @@ use Rattle.waff_plan.proofs.waits.waits.Goals as goal
 
 pub loop-place-init : goal.loop-place-init
 loop-place-init c = record {
+  noted = [];
+  are_noted = none_noted _ _;
   count = omega (arith, c.in_ok-waits.ensures.len, c.in_ok-waits.waits.ok.0, c.len-2.ensures.count);
   waits = λ q less. absurd (omega (arith, less));
   table = c.in_ok-table.ensures.table c.spans-spans.result.now c.args.assigned.now _;
@@ -44,32 +46,36 @@ loop-place-preserved c =
     let runs = each_runs plan.version plan.timings c.len-2.ensures.table.timings in
     let key = chain_key plan.version start in
     let before = started_before plan.version tree assigned start in
-    let in_order = sorts tree assigned work same plan.version start runs c.requires.served in
+    let in_order = sorts tree assigned work same plan.version start runs c.requires.apart in
     let m = (started_at started p).number in
     let m_is : c.number_at-m.result ≡ m = c.number_at-m.ensures work.count known in
     let number = number_here work key started are p within in
     let among : IsAmongFirst (length assigned) m = record { from = number.from; to = omega (arith, number.to, same) } in
-    let noted = numbers_to started p in
+    let noted = c.loop-place.invariant.noted in
+    let are_noted = c.loop-place.invariant.are_noted in
     let excluding = found_noted_at tree spans assigned finish noted m c.of.result.0 c.loop-place.table c.latest.result c.spans-spans.ensures c.requires.known
-    (λ i there. let known = noted_number work key started are p i there in record { from = known.from; to = omega (arith, known.to, same) })
+    (λ i there.
+    let at = are_noted.each i there in
+    let known = number_here work key started are at.0 (omega (arith, at.1, within)) in
+    record { from = omega (arith, at.2, known.from); to = omega (arith, at.2, known.to, same) })
     among (c.of.ensures ∙ ap (affinity_of assigned) m_is) c.loop-place.invariant.table c.latest.ensures in
     let found : IsFound (λ i. before i m) finish c.latest.result
     = found_same _ (λ i. before i m) finish c.latest.result
-    (noted_before work key started are tree assigned before in_order p within)
-    (before_noted work key started are tree assigned before in_order p within) excluding in
+    (noted_before work key started are tree assigned before in_order p within noted are_noted)
+    (before_noted work key started are tree assigned before in_order p within noted are_noted) excluding in
     let Is = IsWait c.args.since before work start in
     let is : Is m c.wait.result
     = subst (Is m) (sym (c.wait.ensures ∙ ap (λ k. wait_of c.args.since work start k c.latest.result) m_is)) (is_wait before work start m c.args.since c.latest.result found) in
     let waits = c.loop-place.waits.items in
-    let more : numbers_to started (p + 1) ≡ noted ++ c.number_at-m.result ∷ []
-    = numbers_more started p within ∙ sym (ap (λ x. noted ++ x ∷ []) m_is) in
     let table = c.note.ensures.table spans assigned finish noted c.loop-place.invariant.table
     (ap (λ x. span_at spans x) (sym c.of.ensures)) (sym c.finish-finish.ensures.finish) in
     record {
+      noted = noted ++ c.number_at-m.result ∷ [];
+      are_noted = noted_more started (λ i. Unit {0}) p c.number_at-m.result noted (sym m_is) are_noted tt;
       count = length-set waits (c.number_at-m.result - 1) c.wait.result ∙ c.loop-place.invariant.count;
       waits = subst (λ k. AreFirstLinks Is started (set waits (k - 1) c.wait.result) (p + 1)) (sym m_is)
           (more_links work key started are Is waits p c.wait.result within c.loop-place.invariant.count c.loop-place.invariant.waits is);
-      table = subst (λ xs. IsTable spans assigned finish xs c.note.new.self) (sym more) table;
+      table = table;
       spans = c.note.ensures.count ∙ c.loop-place.invariant.spans;
     }
 

@@ -1,18 +1,19 @@
--- The fields of each version.
-use Rattle.std.proofs.Common.{refl}
-use Rattle.waff_read.proofs.PlainLaws.{last_field, line_is_row, more_fields}
+-- The fields of a line, one after the other.
+use Rattle.waff_read.proofs.PlainLaws.{fields_are_row}
 use Rattle.waff_read.proofs.plain.next_columns.Goals as goal
 
-pub returns-in_ok-ops-in-V1 : goal.returns-in_ok-ops-in-V1
-returns-in_ok-ops-in-V1 c =
-    rw c.in-V1.is (line_is_row (more_fields c.in_ok-name.ensures (more_fields c.in_ok-cost.ensures (last_field c.in_ok-ops-in-V1.ensures))) refl)
-
-pub returns-in_ok-ops-in-V2 : goal.returns-in_ok-ops-in-V2
-returns-in_ok-ops-in-V2 c =
-    let line = more_fields c.in_ok-release-in-V2.ensures (last_field c.in_ok-ops-in-V2.ensures) in
-    rw c.in-V2.is (line_is_row (more_fields c.in_ok-name.ensures (more_fields c.in_ok-cost.ensures line)) refl)
-
-pub returns-in_ok-ops-in-V3 : goal.returns-in_ok-ops-in-V3
-returns-in_ok-ops-in-V3 c =
-    let line = more_fields c.in_ok-release-in-V3.ensures (more_fields c.in_ok-client-in-V3.ensures (more_fields c.in_ok-think-in-V3.ensures (last_field c.in_ok-ops-in-V3.ensures))) in
-    rw c.in-V3.is (line_is_row (more_fields c.in_ok-name.ensures (more_fields c.in_ok-cost.ensures line)) refl)
+pub returns : goal.returns
+returns c =
+    fields_are_row c.args.version c.args.text.now _ c.in_ok-ops.rest.now (record {
+      behind_name = c.in_ok-name.rest.now;
+      behind_cost = c.in_ok-cost.rest.now;
+      behind_release = c.in_ok-release.rest.now;
+      behind_client = c.in_ok-client.rest.now;
+      behind_think = c.in_ok-think.rest.now;
+      name = c.in_ok-name.ensures;
+      cost = c.in_ok-cost.ensures;
+      release = rw c.has_releases.ensures at c.in_ok-release.ensures.field;
+      client = rw c.has_clients.ensures at c.in_ok-client.ensures.field;
+      think = rw c.has_clients-2.ensures at c.in_ok-think.ensures.field;
+      ops = c.in_ok-ops.ensures;
+    })

@@ -1,5 +1,5 @@
 use Rattle.waff_assign.specs.Case.{instance_of}
-use Rattle.waff_run.specs.Turns.{course_by}
+use Rattle.waff_line.specs.Turns.{course_by}
 use Rattle.waff_run.proofs.workers.run.Given as goal
 
 abbrev pub ghosts-run_at : goal.ghosts-run_at

@@ -47,4 +47,4 @@ returns c =
       lines = lines ∙ ap (λ v. text_for v of_classical.unlimited.total) c.version.ensures
           ∙ ap (λ t. text_for trace.version t) total;
     })
-    c.comparison_text.ensures
+    (rw c.number.ensures.number at c.comparison_text.ensures)

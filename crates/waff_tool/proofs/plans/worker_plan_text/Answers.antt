@@ -49,4 +49,4 @@ returns c =
           ∙ ap (λ ts. text_for ts made.plan.starts made.seats c.messages-chain.result.now) found.ensures.timings
           ∙ ap (text_for (timings_of instance.trace.messages) made.plan.starts made.seats) c.messages-chain.ensures;
     })
-    c.worker_text-text.ensures
+    (rw c.number.ensures.number at c.worker_text-text.ensures)

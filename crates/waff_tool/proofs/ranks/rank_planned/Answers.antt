@@ -8,5 +8,5 @@ invariant_of-planned c = record {
   lengths = as_many c.args.case.now.trace.now.messages _ _ c.in_ok-plan.ensures.timings c.args.case.now.lengths;
 }
 
-pub list_figures_for-listed-requires-clause-least : goal.list_figures_for-listed-requires-clause-least
-list_figures_for-listed-requires-clause-least c = c.in_ok-plan.ensures.least
+pub list_figures_for-listed-requires : goal.list_figures_for-listed-requires
+list_figures_for-listed-requires c = record { least = c.in_ok-plan.ensures.least }

@@ -37,4 +37,4 @@ returns c =
       bound = subst (λ n. IsLowerBound limit instance n) (sym (ap (λ (f : Figures). f.least) are_figures.are))
           (c.least_is_lower_bound.ensures.bound instance limit (start_of starts) handed.given.workers c.len-affinities.ensures.tree case.lengths least);
     })
-    (rw (handed.timings, handed.starts, c.workers.ensures, c.length-shortest.ensures.length, timings) at c.figures_of-figures.ensures)
+    (rw (handed.timings, handed.starts, c.limit_of.ensures, c.workers.ensures, c.length-shortest.ensures.length, timings) at c.figures_of-figures.ensures)

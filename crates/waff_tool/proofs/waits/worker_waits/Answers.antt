@@ -21,7 +21,7 @@ pub waiting_text-text-requires : goal.waiting_text-text-requires
 waiting_text-text-requires c =
     let instance = instance_of c.args.case.now in
     let made = c.in_ok-made.ensures in
-    let list = rw made.timings at made.follows in
+    let list = rw (made.timings, c.number.ensures.number) at made.follows in
     record {
       served = λ third.
           rw (c.plan-plan.ensures.plan, made.version, made.timings)
@@ -35,7 +35,7 @@ returns c =
     let starts = c.in_ok-made.made.plan.starts in
     let made = c.in_ok-made.ensures in
     let are = rw (c.plan-plan.ensures.plan, made.version, made.timings) at c.len-messages.ensures.table.timings in
-    let list = rw made.timings at made.follows in
+    let list = rw (made.timings, c.number.ensures.number) at made.follows in
     IfOk-weaker c.waiting_text-text.result (λ text. IsTold c.args.grouping instance (timings_of instance.trace.messages) starts (string_bytes text)) _
     (λ text told.
     told_text c.args.rule (Some c.args.k) c.args.grouping instance starts (string_bytes text) are case.lengths

@@ -22,7 +22,7 @@ pub worst_messages_text-text-requires : goal.worst_messages_text-text-requires
 worst_messages_text-text-requires c =
     let instance = instance_of c.args.case.now in
     let made = c.in_ok-made.ensures in
-    let list = rw made.timings at made.follows in
+    let list = rw (made.timings, c.number.ensures.number) at made.follows in
     record {
       served = λ third.
           rw (c.plan-plan.ensures.plan, made.version, made.timings)
@@ -34,7 +34,7 @@ returns c =
     let instance = instance_of c.args.case.now in
     let plan = c.plan-plan.result.now in
     let made = c.in_ok-made.ensures in
-    let list = rw made.timings at made.follows in
+    let list = rw (made.timings, c.number.ensures.number) at made.follows in
     IfOk-weaker c.worst_messages_text-text.result (λ text. IsTold c.args.most instance plan.version plan.timings plan.starts (string_bytes text)) _
     (λ text told.
     told_text c.args.rule (Some c.args.k) c.args.most instance plan.version plan.timings plan.starts (string_bytes text)

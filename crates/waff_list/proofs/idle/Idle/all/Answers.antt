@@ -1,6 +1,6 @@
 use Rattle.std.proofs.Common.{◌+◌, ◌∷◌, ◌≤◌, arith}
 use Rattle.waff_model.specs.Numbers.{IsAmongFirst}
-use Rattle.waff_list.proofs.Each.{none_there, each_more, each_moved}
+use Rattle.waff_waits.proofs.Each.{none_there, each_more, each_moved}
 use Rattle.waff_list.proofs.idle.Idle.all.Goals as goal
 
 pub loop-worker-init : goal.loop-worker-init

@@ -1,5 +1,5 @@
 use Rattle.waff_model.specs.Numbers.{IsAmongFirst}
-use Rattle.waff_list.specs.Waiting.{AreEach}
+use Rattle.waff_waits.specs.Times.{AreEach}
 use Rattle.waff_list.proofs.idle.Idle.all.Given as goal
 
 abbrev pub invariant-loop-worker : goal.invariant-loop-worker

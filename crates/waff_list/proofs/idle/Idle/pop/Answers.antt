@@ -5,7 +5,7 @@ use Rattle.std.proofs.lemmas.List.{nil_from_length}
 use Rattle.std.proofs.lemmas.List.Elements.{All-map, All-weaker, All-from_recursion, All-contains}
 use Rattle.std.proofs.lemmas.List.Sorted.{IsPermutation-map}
 use Rattle.waff_list.specs.Waiting.{LeavesLeast}
-use Rattle.waff_list.proofs.OrderingLemmas.{not_less}
+use Rattle.waff_waits.proofs.OrderingLemmas.{not_less}
 use Rattle.waff_list.proofs.idle.Idle.pop.Goals as goal
 use Rattle.waff_list.proofs.idle.Idle.pop.Goals.{in-Some, in-None}
 

@@ -1,0 +1,13 @@
+use Rattle.waff_inputs.specs.Fault.{fault_message}
+use Rattle.waff_answer.proofs.Telling.{tells_behind, tells_part}
+use Rattle.waff_answer.proofs.ending.tell_fault.Goals as goal
+
+pub returns-in-Ok : goal.returns-in-Ok
+returns-in-Ok g c =
+    tells_behind (g.E.ErrorStream.holds c.args.err.now) (g.E.ErrorStream.holds c.write_fault.new.stream) (g.E.ErrorStream.holds c.say.new.err)
+    (g.E.ErrorStream.failed c.say.new.err) (fault_message c.args.error.now) c.args.advice.now c.in-Ok.ensures c.say.ensures
+
+pub returns-in-Err : goal.returns-in-Err
+returns-in-Err g c =
+    tells_part (g.E.ErrorStream.holds c.args.err.now) (g.E.ErrorStream.holds c.write_fault.new.stream) (g.E.ErrorStream.failed c.write_fault.new.stream)
+    (fault_message c.args.error.now) c.args.advice.now c.in-Err.ensures

@@ -1,0 +1,12 @@
+-- What each message waited for since its release is its link.
+use Rattle.std.proofs.Common.{List, Option, ℕ, length, subst, sym}
+use Rattle.waff_plan.specs.Links.{AreLinks}
+use Rattle.waff_plan.specs.Serving.{started_in}
+use Rattle.waff_plan.specs.Timetable.{starts_in, work_in}
+use Rattle.waff_plan.proofs.printed.started_chain.Goals as goal
+
+pub walk-requires-clause-links : goal.walk-requires-clause-links
+walk-requires-clause-links c =
+    let plan = c.args.plan.now in
+    subst (λ (xs : List (Option ℕ)). AreLinks (started_in c.args.tree.now c.args.assigned.now plan) (work_in plan) (starts_in plan) (length plan.timings) xs)
+    (sym c.as_slice.ensures.value) c.in_ok-links.ensures.waits

@@ -1,0 +1,21 @@
+//! What holds of the rounding of the turns of a run, whatever they are. Each law is a function that does nothing and whose
+//! contract is the law.
+
+ghost use Rattle.std.specs.Prelude.{ℕ, List};
+ghost use Rattle.waff_plan.specs.Work.{Work};
+ghost use Rattle.waff_line.specs.Machine.{Course};
+ghost use Rattle.waff_line.specs.declared.turn.Turn.{Turn};
+ghost use Rattle.waff_record.specs.Laws.{RoundingIsOne, RoundingTells};
+
+/// What is told of the turns of a run is a plan that obeys, for the workers of the run, each on its own. Of messages that
+/// exclude each other the one that was served first has finished when the other starts.
+pub fn rounding_tells()
+    ensures { (course : Course) (ticks : Work) (tick : ℕ) (turns : List Turn)
+        → RoundingTells course ticks tick turns }
+{}
+
+/// The rounding of turns is one.
+pub fn rounding_is_one()
+    ensures { (course : Course) (ticks : Work) (tick : ℕ) (turns : List Turn)
+        → RoundingIsOne course ticks tick turns }
+{}

@@ -1,5 +1,0 @@
-use Rattle.waff_board.specs.Tokens.{IsOf}
-use Rattle.waff_worked_replay.proofs.boards.run_next.Given as goal
-
-abbrev pub invariant-loop : goal.invariant-loop
-invariant-loop g l = IsOf l.board l.seat

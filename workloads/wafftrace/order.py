@@ -1,0 +1,233 @@
+"""Order between clients: what in a log of strace makes one thread wait for another, as lists of requests that each request waits for.
+
+While the log is read, each call that orders threads or makes requests is noted. When it is read, they are walked in the order of the log."""
+
+import collections
+import heapq
+from collections.abc import Callable, Iterable, Iterator, Sequence
+from dataclasses import dataclass, field
+
+from . import limits
+from .logs import Data, Refusal, Request, counted, shown
+from .order_frontier import Edge, Frontiers
+from .order_steps import CALLS, Birth, Steps, Whose, what_counts
+from .order_walk import KINDS, Named, Tally, Walk
+from .prices import keeping_thinks
+from .processes import Who
+
+# What `--order` is without this word. The program reads no traces of version 4 yet; when it does, this is `all`.
+USUAL = "none"
+# What stands behind a call that strace was told to delay.
+DELAYED = "(DELAYED)"
+
+
+def kinds_of(word: str) -> frozenset[str]:
+    """The kinds that `--order` asks for."""
+    if word in ("all", "none"):
+        return frozenset(KINDS if word == "all" else ())
+    found = word.split(",")
+    if not set(found) <= set(KINDS):
+        raise Refusal(2, f"--order {shown(word)}: wanted is all, none, or some of {', '.join(KINDS)}")
+    return frozenset(found)
+
+
+class Record:
+    """The calls of a log that order threads, as they are read."""
+
+    def __init__(self, kinds: frozenset[str]) -> None:
+        self.kinds = kinds
+        self.steps = Steps()
+        self.births: list[Birth] = []
+        self.named: dict[int, list[Named]] = {}
+        self.whose: dict[str, Whose] = {}
+        self.is_delayed = False
+
+    def of(self, who: Who, number: str, box: str) -> Whose:
+        found = self.whose.get(who.thread)
+        if found is None:
+            found = self.whose[who.thread] = who.thread, number, who.process, box
+        return found
+
+    def call(self, who: Who, number: str, box: str, places: tuple[int, int], times: tuple[int, int], call: tuple[str, str, str, str], requests: range) -> None:
+        """A call that has returned: the places of its lines, its beginning and how long it took, its name, arguments, result and what stands
+        behind that, and the requests that it made."""
+        name, args, result, tail = call
+        if name in CALLS or requests:
+            begun, took = times
+            self.steps.add(self.of(who, number, box), places, (begun, begun + took), (name, what_counts(name, args), result, tail), requests)
+            self.is_delayed = self.is_delayed or DELAYED in tail
+
+    def line(self, who: Who, number: str, box: str, at: int, time: int, text: str) -> None:
+        """A signal, or the end of a thread."""
+        self.steps.add(self.of(who, number, box), (at, at), (time, time), (text[:3], text, "", ""), range(0))
+
+    def birth(self, child: Who, number: str, box: str, parent: Who, begun: int) -> None:
+        self.births.append(Birth(begun, child.thread, number, child.process, box, parent.thread))
+
+    def makes(self, request: int, *keys: object) -> None:
+        """Others find by this name what a request made, or that it is free."""
+        self.named.setdefault(request, []).extend(("makes", key) for key in keys)
+
+    def needs(self, request: int, key: object) -> None:
+        self.named.setdefault(request, []).append(("needs", key))
+
+    def solved(self, requests: Sequence[Request]) -> "Order":
+        walk = Walk(requests, self.kinds, self.named)
+        walk.go(self.steps, self.births)
+        begun = [0] * len(requests)
+        for at, first in enumerate(self.steps.first):
+            for number in range(first, first + self.steps.count[at]):
+                begun[number] = self.steps.begun[at]
+        return Order(requests, walk.frontiers, begun, walk.tally, self.is_delayed)
+
+
+@dataclass(slots=True)
+class Item:
+    """A request in the order of its issue: its think time and release and those that it waits for, in nanoseconds; `came` where it comes
+    when it came in the log, since one that it waited for is left out."""
+
+    number: int
+    request: Request
+    think: int
+    release: int
+    after: list[Edge]
+    came: bool
+
+
+class Order:
+    """What each request of a log waits for."""
+
+    def __init__(self, requests: Sequence[Request], frontiers: Frontiers, begun: list[int], tally: Tally, is_delayed: bool) -> None:
+        self.requests = requests
+        self.frontiers = frontiers
+        self.begun = begun
+        self.tally = tally
+        self.is_delayed = is_delayed
+        # How many are left out of those that wait for a request which began later by the clock.
+        self.backwards = 0
+        self.number = {id(it): at for at, it in enumerate(requests)}
+
+    def items(self, kept: Sequence[Request]) -> Iterator[Item]:
+        """These requests, in the order in which they began."""
+        numbers = sorted((self.number[id(it)] for it in kept), key=lambda at: (self.requests[at].time, self.begun[at], at))
+        wanted, known = set(numbers), set[int]()
+        mine: set[str] = set()
+        of = self.frontiers
+        for at in numbers:
+            it, client = self.requests[at], of.whose[at]
+            after = [entry for entry in of.after[at] if entry[0] in known]
+            is_first = client not in mine
+            self.backwards += sum(entry[0] in wanted and entry[0] not in known for entry in of.after[at])
+            came = len(after) < len(of.after[at]) or is_first and of.thinks[at] > 0
+            yield Item(at, it, 0 if is_first else of.thinks[at], of.releases[at], after, came)
+            known.add(at)
+            mine.add(client)
+
+
+@dataclass(slots=True)
+class Lists:
+    """The lists of a trace: how many messages there are, the pieces of all, how many messages have some, and why."""
+
+    messages: int = 0
+    pieces: int = 0
+    waiting: int = 0
+    by_kind: collections.Counter[str] = field(default_factory=collections.Counter)
+    # The gaps that are longer than a trace has them, and the longest of these, in nanoseconds.
+    cut: int = 0
+    longest: int = 0
+
+
+def told(order: Order, lists: Lists) -> list[str]:
+    """What is told of the order of a log."""
+    tally = order.tally
+    lines = [
+        f"order between clients: {counted(lists.pieces, 'edges')} on {lists.waiting:,} of {counted(lists.messages, 'messages')}"
+        + by_kind(" (", {kind: f"{count:,}" for kind, count in lists.by_kind.most_common()})
+    ]
+    known, others = +tally.explained, +tally.unexplained
+    if known or others:
+        whole, with_cause = known.total() + others.total(), known.total()
+        lines.append(
+            f"waits {in_seconds(whole)} s: {in_seconds(with_cause)} s have their cause in the log"
+            + by_kind(" (", {kind: in_seconds(time) for kind, time in known.most_common(3)})
+            + f", {in_seconds(others.total())} s have none and stay thinking"
+            + by_kind(" (", {name: in_seconds(time) for name, time in others.most_common(3)})
+        )
+    if lists.cut:
+        lines.append(f"gaps above {limits.THINK} ticks, which were cut to that: {lists.cut} (--tick {keeping_thinks(lists.longest)} keeps them)")
+    if order.backwards:
+        lines.append(f"{counted(order.backwards, 'edges')} left out, to requests that the clock of the log tells to be later")
+    if tally.has_threads and not order.is_delayed:
+        lines.append("WARNING: threads share memory, and a lock that is free shows in no log: the order may lack edges (record slow: workloads/README.md)")
+    if tally.without_peer:
+        lines.append(f"WARNING: {counted(tally.without_peer, 'calls')} on sockets without another end, which order nobody (strace -yy ties both ends)")
+    return lines
+
+
+def by_kind(before: str, of: dict[str, str]) -> str:
+    return f"{before}{', '.join(f'{name} {what}' for name, what in of.items())})" if of else ""
+
+
+def in_seconds(nanoseconds: int) -> str:
+    return f"{nanoseconds / 10**9:.2f}"
+
+
+class Bracket:
+    """How many requests run at once in the mean where nothing but these waits: by clients and order, by clients alone, and if each comes
+    behind all that had finished before it. They are taken in the order of their beginnings; of a group of one call the first began."""
+
+    def __init__(self) -> None:
+        self.total = 0
+        # By the number of a request and by client, when it ends if costs are all the time that there is.
+        self.ends: dict[int, int] = {}
+        self.last: dict[str, int] = {}
+        self.alone: dict[str, int] = {}
+        self.finished: dict[str, int] = {}
+        # Those that had not finished when the last one began: when each did, and its end here; and the latest end of the others.
+        self.running: list[tuple[int, int]] = []
+        self.before = 0
+
+    def take(self, it: Request, cost: int, took: int) -> None:
+        """Takes a request that waits for its client alone, and took so long in the log."""
+        client, running = it.client, self.running
+        self.total += cost
+        self.alone[client] = self.alone.get(client, 0) + cost
+        while running and running[0][0] <= it.time:
+            self.before = max(self.before, heapq.heappop(running)[1])
+        end = self.finished[client] = max(self.before, self.finished.get(client, 0)) + cost
+        heapq.heappush(running, (it.time + took, end))
+
+    def take_ordered(self, item: Item, cost: int) -> None:
+        """Takes one that waits for others too."""
+        self.take(item.request, cost, item.request.took or 0)
+        client = item.request.client
+        self.ends[item.number] = self.last[client] = max([self.last.get(client, 0), *(self.ends[it] for it, _, _ in item.after)]) + cost
+
+    def figure(self, longest: Iterable[int]) -> str:
+        return f"{self.total / max(1, max(longest, default=0)):.2f}"
+
+    def text(self) -> str:
+        by_clients = f"{self.figure(self.alone.values())} by clients alone"
+        finished = f"{self.figure(self.finished.values())} if all comes behind what had finished before it"
+        if not self.ends:
+            return f"at once {by_clients.replace(' by', ' times in parallel by')}, {finished}"
+        return f"at once {self.figure(self.ends.values())} times in parallel by clients and order, {by_clients}, {finished}"
+
+
+def bracket(requests: Iterable[Request], price_of: Callable[[Request], int], measured: bool) -> Bracket:
+    """The bracket of requests in the order of their beginnings, of which nothing but clients is known. What has no latency takes its price."""
+    found = Bracket()
+    for it in requests:
+        if isinstance(it, Data) or it.ops:
+            price = price_of(it)
+            took = price if it.took is None else it.took
+            found.take(it, took if measured else price, took)
+    return found
+
+
+def bracket_of(items: Sequence[Item], costs: Sequence[int]) -> Bracket:
+    """The bracket of requests with these costs, in the order of their beginnings."""
+    found = Bracket()
+    for item, cost in zip(items, costs, strict=True):
+        found.take_ordered(item, cost)
+    return found

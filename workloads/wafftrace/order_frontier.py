@@ -1,0 +1,185 @@
+"""What a thread comes after: of each client the last requests that it has waited for, and how long ago; and the lists of requests that come of
+that.
+
+A thread has a clock, which runs while it does not wait. A gap is the time of clocks from the end of a request to a point, and of two ways from
+the one to the other the longer counts."""
+
+from collections.abc import Sequence
+from dataclasses import dataclass, field
+
+from .logs import Request
+
+# The start of the log, as a client with the request -1: what is not known to come of a request comes so long after it.
+START = ""
+# A request by its number, and the gap behind it.
+Entry = tuple[int, int]
+# The same, and why it is waited for.
+Edge = tuple[int, int, str]
+# Of each client the entries of which none makes another one needless.
+Entries = dict[str, list[Entry]]
+
+
+@dataclass(slots=True)
+class Point:
+    """A place in a thread that others may wait for: when it was, whose it is, and what had come before it."""
+
+    time: int
+    who: str
+    of: Entries
+
+
+@dataclass(slots=True)
+class Thread:
+    """A thread: its names, the time up to which it is known, its clock, and what it comes after, with gaps less its clock."""
+
+    name: str
+    process: str
+    box: str
+    last: int
+    clock: int = 0
+    own: Entries = field(default_factory=dict)
+    # Why it comes after the requests of others that it does.
+    why: dict[int, str] = field(default_factory=dict)
+    # Whether it tries for a lock; what it polled for and since when; and where the call began that it is in.
+    tries: bool = False
+    poll: tuple[int, int] | None = None
+    point: Point | None = None
+    is_over: bool = False
+
+    def here(self) -> Point:
+        """The point at which the thread is."""
+        return Point(self.last, self.name, {client: [(it, self.clock + gap) for it, gap in every] for client, every in self.own.items()})
+
+
+class Frontiers:
+    """What each request waits for, found one after another in the order of their beginnings."""
+
+    def __init__(self, requests: Sequence[Request]) -> None:
+        count = len(requests)
+        self.start = min((it.time for it in requests), default=0)
+        self.took = [it.took or 0 for it in requests]
+        self.whose = [""] * count
+        # What is found: the think time and the release of each request, and whom it waits for besides the one before of its client.
+        self.thinks = [0] * count
+        self.releases = [0] * count
+        self.after: list[list[Edge]] = [[] for _ in range(count)]
+        # How many entries there were before those went that others make needless.
+        self.raw = 0
+        # When each ends in its client's own time, and the least time at which it is issued if nothing costs anything.
+        self.ends = [0] * count
+        self.least = [0] * count
+        # Requests of a client without lists share what is known of the first of them, their `base`; `since` are the think times up to each.
+        self.base = [0] * count
+        self.since = [0] * count
+        self.known: dict[int, dict[str, Entry]] = {}
+
+    def put(self, every: Sequence[Entry], number: int, gap: int) -> list[Entry]:
+        """These entries of a client and another one, without those that others make needless at the times of the log."""
+        left, ends = list[Entry](), self.ends
+        gap = max([gap, *(behind for other, behind in every if other == number)])
+        for other, behind in every:
+            if other > number and gap <= behind + ends[other] - ends[number]:
+                return list(every)
+            if other > number or other < number and behind > gap + ends[number] - ends[other]:
+                left.append((other, behind))
+        return sorted([*left, (number, gap)]) if left else [(number, gap)]
+
+    def both(self, first: Point | None, second: Point) -> Point:
+        """A point that comes after both; its time is the later one."""
+        if first is None:
+            return Point(second.time, second.who, dict(second.of))
+        for client, every in second.of.items():
+            for number, gap in every:
+                first.of[client] = self.put(first.of.get(client, ()), number, gap)
+        first.time, first.who = max(first.time, second.time), second.who
+        return first
+
+    def join(self, thread: Thread, point: Point, more: int, kind: str) -> None:
+        """Lets a thread come after a point by so much more, for a reason of this kind."""
+        for client, every in point.of.items():
+            for number, gap in every:
+                old = thread.own.get(client)
+                found = self.put(old or (), number, gap + more - thread.clock)
+                if found != old:
+                    thread.own[client] = found
+                    thread.why[number] = kind
+
+    def issue(self, thread: Thread, numbers: range) -> None:
+        """The requests of a call of this thread: the first waits for what the thread comes after, the others for the one before."""
+        for number in numbers:
+            self.whose[number] = thread.name
+            if number == numbers.start:
+                self.first(thread, number)
+            else:
+                self.least[number] = self.least[number - 1]
+                self.note(thread.name, number, (number - 1, 0))
+        thread.own = {thread.name: [(numbers[-1], -thread.clock)]}
+        thread.why.clear()
+
+    def first(self, thread: Thread, number: int) -> None:
+        name, clock = thread.name, thread.clock
+        mine = thread.own.get(name)
+        own = (mine[-1][0], max(0, clock + mine[-1][1])) if mine else None
+        others = [
+            (client, it, max(0, clock + gap)) for client, every in thread.own.items() if client != START
+            for it, gap in (every[:-1] if client == name else every)
+        ]
+        self.raw += len(others)
+        found = self.reduced(name, own, others) if others else []
+        self.after[number] = [(it, gap, thread.why[it]) for it, gap in found]
+        if own is not None:
+            self.thinks[number] = own[1]
+        self.note(name, number, own)
+        behind = found + ([own] if own is not None else [])
+        least = max((self.least[it] + gap for it, gap in behind), default=0)
+        begun = thread.own.get(START)
+        if begun is not None and clock + begun[0][1] > least:
+            self.releases[number] = least = clock + begun[0][1]
+        self.least[number] = least
+
+    def way(self, number: int, client: str, before: int) -> int | None:
+        """The gaps from a request of a client to this one that are certain; None where this one is not known to come after it."""
+        base = self.base[number]
+        found = self.known[base].get(client)
+        if found is None or found[0] < before:
+            return None
+        return found[1] + self.since[number] - self.since[base] + self.since[found[0]] - self.since[before]
+
+    def reduced(self, name: str, own: Entry | None, others: list[tuple[str, int, int]]) -> list[Entry]:
+        """The entries that no other one makes needless, whatever requests cost."""
+        ways = [*others, (name, *own)] if own is not None else others
+        found = []
+        for client, number, gap in others:
+            for other, via, behind in ways:
+                if other != client:
+                    way = self.way(via, client, number)
+                    if way is not None and way + behind >= gap:
+                        break
+            else:
+                found.append((number, gap))
+        return sorted(found)
+
+    def note(self, name: str, number: int, own: Entry | None) -> None:
+        """Notes what a request is known to come after."""
+        think = own[1] if own is not None else 0
+        before = own[0] if own is not None else -1
+        self.ends[number] = (self.ends[before] if own is not None else 0) + think + self.took[number]
+        self.since[number] = (self.since[before] if own is not None else 0) + think
+        if own is not None and not self.after[number]:
+            self.base[number] = self.base[before]
+            return
+        self.base[number] = number
+        known: dict[str, Entry] = {}
+        for via, gap in [*(it[:2] for it in self.after[number]), *([own] if own is not None else [])]:
+            base = self.base[via]
+            more = self.since[via] - self.since[base] + gap
+            for client, (it, behind) in self.known[base].items():
+                keep_latest(known, client, it, behind + more)
+            keep_latest(known, self.whose[via], via, gap)
+        self.known[number] = known
+
+
+def keep_latest(known: dict[str, Entry], client: str, number: int, gap: int) -> None:
+    old = known.get(client)
+    if old is None or (number, gap) > old:
+        known[client] = number, gap

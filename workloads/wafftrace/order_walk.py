@@ -1,0 +1,495 @@
+"""The calls of a log in the order of their beginnings and ends: what each releases, and what it waits for."""
+
+import collections
+import re
+import signal
+from bisect import bisect_right
+from collections.abc import Callable, Sequence
+from dataclasses import dataclass, field
+
+from .logs import Request
+from .order_frontier import START, Frontiers, Point, Thread
+from .order_locks import END, Holder, Key, Locks, Range
+from .order_steps import FORKS, KILLS, POLLS, READS, SLEEPS, WAITS, WRITES, Birth, Step, Steps
+from .order_streams import ALONE, Channel, Streams, channel_of
+
+# Why one waits for another, by the words of `--order`.
+KINDS = ("lock", "futex", "pipe", "socket", "wait", "fork", "signal", "name")
+
+SHOWN = re.compile(r"\d+<((?:->|[^<>])*)>")
+LOCK = re.compile(r"l_type=(F_[A-Z]+).*?l_whence=(\w+), l_start=(-?\d{1,19})(?!\d), l_len=(\d{1,19})(?!\d)")
+FUTEX = re.compile(r"(0x[0-9a-f]+), (FUTEX_[A-Z_]+)((?:\|\w+)*)(?:, (\d+|0x[0-9a-f]+))?")
+DUPLICATED = re.compile(r", (\d+)<((?:->|[^<>])*)>")
+CONNECT = re.compile(r'sin6?_port=htons\((\d+)\)|sun_path=@?"([^"]*)"')
+ACCEPT = re.compile(r':(\d+)\]$|"([^"]*)"')
+SIGNAL = re.compile(r"--- (SIG\w+) .*?si_pid=(\d+)")
+SENDER = re.compile(r"si_pid=(\d+)")
+TEXT = re.compile(r'"((?:[^"\\]|\\.)*)"')
+ESCAPED = re.compile(r"\\([0-7]{1,3}|.)")
+LETTERS = {"n": "\n", "t": "\t", "r": "\r", "v": "\v", "f": "\f"}
+NUMBERS = {it.name: int(it) for it in signal.Signals}
+# In what signalfd tells, the number of a signal is the first byte, that of its sender the four from this one on.
+SENDER_AT = 12
+# The value of a mutex of the C library that somebody waits for.
+CONTENDED = "2"
+# Times of a log are told to the microsecond, so that a release may seem to be a little before a beginning.
+SLACK = 1000
+# A call that takes less did not wait for room in a pipe; a wait of less is not told.
+NO_WAIT, NOT_TOLD = 20_000, 500_000
+# So many signals are remembered that came nowhere yet, and so many calls that woke threads at an address.
+MOST_SIGNALS, MOST_WAKES = 64, 256
+
+
+# A request that makes or needs a name: that of a file, or that a path is free.
+Named = tuple[str, object]
+
+
+@dataclass(slots=True)
+class Wake:
+    """A call that woke threads: its place, how many more it may have woken, and where it was made."""
+
+    begun: int
+    left: int
+    point: Point
+
+
+@dataclass(slots=True)
+class Tally:
+    """What is told of the order: nanoseconds of waits whose cause the log has, by kind, and of others, by call, and what could not be
+    followed."""
+
+    explained: collections.Counter[str] = field(default_factory=collections.Counter)
+    unexplained: collections.Counter[str] = field(default_factory=collections.Counter)
+    without_peer: int = 0
+    has_threads: bool = False
+
+
+class Walk:
+    """Goes through the steps of a log. `kinds` are the reasons that count, `named` what requests make and need."""
+
+    def __init__(self, requests: Sequence[Request], kinds: frozenset[str], named: dict[int, list[Named]]) -> None:
+        self.frontiers = Frontiers(requests)
+        self.kinds = kinds
+        self.named = named
+        self.tally = Tally()
+        self.threads: dict[str, Thread] = {}
+        self.alive: dict[str, set[str]] = collections.defaultdict(set)
+        # The latest thread of each number; where it and its process ended; and where each began another program.
+        self.numbers: dict[str, str] = {}
+        self.exits: dict[str, Point] = {}
+        self.ends: dict[str, Point] = {}
+        self.programs: dict[str, Point] = {}
+        self.locks = Locks(self.frontiers)
+        self.streams = Streams(self.frontiers)
+        self.mutexes: dict[tuple[str, str], Point] = {}
+        self.wakes: dict[tuple[str, str], list[Wake]] = collections.defaultdict(list)
+        self.connects: dict[tuple[str, str], collections.deque[Point]] = collections.defaultdict(collections.deque)
+        self.kills: dict[str, list[tuple[str, Point]]] = collections.defaultdict(list)
+        self.makers: dict[object, tuple[int, str]] = {}
+
+    def go(self, steps: Steps, births: Sequence[Birth]) -> None:
+        """Takes beginnings, births and ends in the order of the places of their lines."""
+        for is_end, it in steps.in_order(births):
+            if isinstance(it, Birth):
+                self.born(it)
+            elif is_end:
+                self.end(it)
+            else:
+                self.begin(it)
+
+    # Threads
+
+    def thread(self, step: Step) -> Thread:
+        found = self.threads.get(step.thread)
+        if found is None:
+            found = self.threads[step.thread] = Thread(step.thread, step.process, step.box, step.time)
+            found.own[START] = [(-1, step.time - self.frontiers.start)]
+            self.note(found, step.number)
+        return found
+
+    def note(self, thread: Thread, number: str) -> None:
+        self.alive[thread.process].add(thread.name)
+        self.tally.has_threads = self.tally.has_threads or len(self.alive[thread.process]) > 1
+        self.numbers[number] = thread.name
+
+    def born(self, birth: Birth) -> None:
+        parent = self.threads.get(birth.parent)
+        if parent is None or birth.thread in self.threads:
+            return
+        found = self.threads[birth.thread] = Thread(birth.thread, birth.process, birth.box, parent.last)
+        self.note(found, birth.number)
+        if not self.join(found, parent.here(), 0, "fork"):
+            found.own[START] = [(-1, parent.last - self.frontiers.start)]
+
+    def called(self, box: str, number: str) -> str:
+        """The latest thread of this number in a box."""
+        return self.numbers.get(box + number, box + number)
+
+    # What waits
+
+    def join(self, thread: Thread, point: Point, more: int, kind: str) -> bool:
+        """Lets a thread come after a point, if that kind counts."""
+        if kind not in self.kinds:
+            return False
+        self.frontiers.join(thread, point, more, kind)
+        return True
+
+    def wait_for(self, thread: Thread, step: Step, points: Sequence[Point], kind: str) -> bool:
+        """A call has ended that waited for these. Its time is a wait where the latest of them came after its beginning, else thinking."""
+        counts = kind in self.kinds
+        latest = max((it.time for it in points if it.who != thread.name), default=None)
+        took = step.end - step.time
+        is_known = counts and latest is not None and latest > step.time - SLACK
+        if counts and latest is not None and thread.poll and latest > thread.poll[1]:
+            # What it polled for has come.
+            thread.clock -= thread.poll[0]
+            self.tally.explained[kind] += thread.poll[0]
+            self.tally.unexplained["poll"] -= thread.poll[0]
+        thread.poll = None
+        more = took
+        if is_known and latest is not None:
+            self.tally.explained[kind] += took
+            more = max(0, step.end - max(latest, step.time))
+        else:
+            thread.clock += took
+        for it in points:
+            self.join(thread, it, max(more, step.end - max(it.time, step.time)) if is_known else more, kind)
+        return True
+
+    # Beginnings
+
+    def begin(self, step: Step) -> None:
+        thread = self.thread(step)
+        if step.time > thread.last:
+            thread.clock += step.time - thread.last
+            thread.last = step.time
+        if step.name == "+++":
+            return
+        if step.requests:
+            thread.poll = None
+            self.come_after_names(thread, step)
+            self.frontiers.issue(thread, step.requests)
+        release = RELEASES.get(step.name)
+        thread.point = thread.here() if release is not None or step.name in ("exit", "exit_group") else None
+        if release is not None and thread.point is not None and (not step.has_failed or step.name == "connect"):
+            release(self, thread, step, thread.point)
+        elif step.name in ("exit", "exit_group"):
+            self.leave(thread, step.name == "exit_group")
+
+    def come_after_names(self, thread: Thread, step: Step) -> None:
+        """A request that finds by its name what another thread made comes after that."""
+        for number in step.requests:
+            for what, key in self.named.get(number, ()):
+                maker = self.makers.get(key) if what == "needs" else None
+                if maker is not None and maker[1] != thread.name:
+                    self.join(thread, Point(0, maker[1], {maker[1]: [(maker[0], 0)]}), 0, "name")
+
+    def give_up(self, thread: Thread, step: Step, point: Point) -> None:
+        """A record lock is given up."""
+        if "F_UNLCK" in step.args:
+            number, path = step.descriptor()
+            self.locks.give_up((path, "record"), holder_of(step, number), range_of(step.args)[0], point)
+
+    def give_up_whole(self, thread: Thread, step: Step, point: Point) -> None:
+        if "LOCK_UN" in step.args:
+            number, path = step.descriptor()
+            self.locks.give_up((path, "flock"), (step.process, number), Range(), point)
+
+    def close(self, thread: Thread, step: Step, point: Point) -> None:
+        number, path = step.descriptor()
+        channel = channel_of(step.box, path, True)
+        if channel is not None:
+            self.streams.close(channel, point)
+        elif path:
+            self.locks.close(path, step.process, number, point)
+
+    def closed_by_copy(self, thread: Thread, step: Step, point: Point) -> None:
+        """dup2 closes what was open under the second descriptor."""
+        found = DUPLICATED.search(step.args)
+        channel = channel_of(step.box, found[2], True) if found else None
+        if channel is not None and len(channel) == 2:
+            self.streams.close(channel, point)
+
+    def wake(self, thread: Thread, step: Step, point: Point) -> None:
+        found = FUTEX.match(step.args)
+        if found and found[2].startswith("FUTEX_WAKE") and step.result.isdecimal():
+            key = futex_of(step, found)
+            self.mutexes[key] = self.frontiers.both(self.mutexes.get(key), point)
+            wakes = self.wakes[key]
+            wakes.append(Wake(step.begun, step.count, point))
+            del wakes[:-MOST_WAKES]
+
+    def write(self, thread: Thread, step: Step, point: Point) -> None:
+        self.written(step, step.descriptor()[1], point)
+
+    def splice(self, thread: Thread, step: Step, point: Point) -> None:
+        paths = SHOWN.findall(step.args)
+        if len(paths) > 1:
+            self.written(step, paths[0] if step.name == "sendfile" else paths[1], point)
+
+    def written(self, step: Step, path: str, point: Point) -> None:
+        channel = channel_of(step.box, path, True)
+        if channel is not None:
+            self.streams.write(channel, step.process, step.count, point)
+        elif ALONE.match(path):
+            self.tally.without_peer += 1
+
+    def connect(self, thread: Thread, step: Step, point: Point) -> None:
+        found = CONNECT.search(step.args)
+        if found and (not step.has_failed or "EINPROGRESS" in step.tail):
+            self.connects[step.box, found[1] or found[2]].append(point)
+
+    def kill(self, thread: Thread, step: Step, point: Point) -> None:
+        words = step.args.rstrip(") ").split(", ")
+        target = words[1] if step.name == "tgkill" and len(words) > 1 else words[0]
+        queue = self.kills[self.called(step.box, target.strip())]
+        queue.append((words[-1].strip(), point))
+        del queue[:-MOST_SIGNALS]
+
+    def program(self, thread: Thread, step: Step, point: Point) -> None:
+        self.programs[step.thread] = self.programs[step.process] = point
+
+    def leave(self, thread: Thread, is_all: bool) -> None:
+        """A thread ends, or its process."""
+        point = thread.point or thread.here()
+        self.exits[thread.name] = point
+        self.ends[thread.process] = self.frontiers.both(self.ends.get(thread.process), point)
+        self.alive[thread.process].discard(thread.name)
+        if is_all or not self.alive[thread.process]:
+            self.locks.leave(thread.process, point)
+            self.streams.leave(thread.process, self.ends[thread.process])
+
+    # Ends
+
+    def end(self, step: Step) -> None:
+        thread = self.thread(step)
+        if step.name == "+++":
+            if thread.name not in self.exits:
+                thread.point = None
+                self.leave(thread, False)
+            return
+        if step.name == "---":
+            self.signalled(thread, step)
+            return
+        if step.requests:
+            # The time of a request is no thinking.
+            thread.last = max(thread.last, step.end)
+            for number in step.requests:
+                for what, key in self.named.get(number, ()):
+                    if what == "makes":
+                        self.makers[key] = number, thread.name
+            return
+        if not self.interrupted(thread, step):
+            acquire = ACQUIRES.get(step.name)
+            if acquire is None or not acquire(self, thread, step):
+                thread.clock += step.end - step.time
+                self.not_explained(step)
+        thread.last = max(thread.last, step.end)
+
+    def not_explained(self, step: Step) -> None:
+        if step.end - step.time > NOT_TOLD and step.name in ACQUIRES and step.name not in POLLS:
+            self.tally.unexplained[step.name] += step.end - step.time
+
+    def interrupted(self, thread: Thread, step: Step) -> bool:
+        """A call that is begun again: what it waited for shows when it returns."""
+        if not step.has_failed or step.name not in BEGUN_AGAIN or not ("ERESTART" in step.tail or "EINTR" in step.tail):
+            return False
+        took = step.end - step.time
+        thread.clock += took
+        before, since = thread.poll or (0, step.time)
+        thread.poll = before + took, since
+        self.tally.unexplained["poll"] += took
+        return True
+
+    def signalled(self, thread: Thread, step: Step) -> None:
+        found = SIGNAL.match(step.args)
+        if found is None:
+            return
+        name, sender = found[1], self.called(step.box, found[2])
+        if name == "SIGCHLD" and thread.poll and sender in self.ends:
+            self.wait_for(thread, step, [self.ends[sender]], "wait")
+            return
+        queue = self.kills.get(thread.name) or self.kills.get(thread.process) or []
+        sent = next((it for it in queue if it[0] == name), None)
+        if sent is None:
+            return
+        queue.remove(sent)
+        if thread.poll:
+            self.wait_for(thread, step, [sent[1]], "signal")
+        else:
+            self.join(thread, sent[1], max(0, step.time - sent[1].time), "signal")
+
+    def lock(self, thread: Thread, step: Step) -> bool:
+        """A record lock that was tried for, or taken."""
+        if "_SETLK" not in step.args or "F_UNLCK" in step.args:
+            return False
+        number, path = step.descriptor()
+        of, kind = range_of(step.args)
+        return self.locked(thread, step, (path, "record"), holder_of(step, number), of, kind == "F_WRLCK")
+
+    def lock_whole(self, thread: Thread, step: Step) -> bool:
+        if "LOCK_UN" in step.args:
+            return False
+        number, path = step.descriptor()
+        return self.locked(thread, step, (path, "flock"), (step.process, number), Range(), "LOCK_EX" in step.args)
+
+    def locked(self, thread: Thread, step: Step, key: Key, holder: Holder, of: Range, writes: bool) -> bool:
+        if step.has_failed:
+            if "EAGAIN" in step.tail or "EACCES" in step.tail:
+                thread.tries = True
+            return False
+        thread.tries = False
+        self.wait_for(thread, step, self.locks.before(key, of, writes), "lock")
+        thread.last = max(thread.last, step.end)
+        self.locks.take(key, holder, of, writes, thread.point or thread.here())
+        return True
+
+    def futex(self, thread: Thread, step: Step) -> bool:
+        found = FUTEX.match(step.args)
+        if found is None or not found[2].startswith("FUTEX_WAIT"):
+            return False
+        value, is_bitset = found[4] or "", "BITSET" in found[2]
+        ended = self.exits.get(self.called(step.box, value)) if is_bitset else None
+        if ended is not None:
+            return self.wait_for(thread, step, [ended], "futex")
+        if step.has_failed and "EAGAIN" not in step.tail:
+            return False
+        key = futex_of(step, found)
+        if value == CONTENDED and not is_bitset:
+            return key in self.mutexes and self.wait_for(thread, step, [self.mutexes[key]], "futex")
+        woken = self.woken(thread, step, key)
+        return woken is not None and self.wait_for(thread, step, [woken], "futex")
+
+    def woken(self, thread: Thread, step: Step, key: tuple[str, str]) -> Point | None:
+        """Where the call was made that woke this one: the first with a waiter left, or where the value had changed before the last one."""
+        wakes = self.wakes[key]
+        if step.has_failed:
+            return next((it.point for it in reversed(wakes) if it.begun < step.ended and it.point.who != thread.name), None)
+        for at in range(bisect_right(wakes, step.begun, key=lambda it: it.begun), len(wakes)):
+            if wakes[at].left > 0:
+                wakes[at].left -= 1
+                return wakes[at].point
+        return None
+
+    def receive(self, thread: Thread, step: Step) -> bool:
+        if step.has_failed or step.name == "sendfile":
+            return False
+        path = step.descriptor()[1]
+        if step.name == "splice":
+            path = next(iter(SHOWN.findall(step.args)), "")
+        if "signalfd" in path:
+            return self.told_of_signal(thread, step)
+        channel = channel_of(step.box, path, False)
+        if channel is None:
+            self.tally.without_peer += ALONE.match(path) is not None
+            return False
+        points = self.streams.take(channel, step.count)
+        is_known = bool(points) and self.wait_for(thread, step, points, kind_of(channel))
+        if step.count:
+            here = thread.here()
+            self.streams.note_read(channel, Point(step.end, here.who, here.of))
+        return is_known
+
+    def told_of_signal(self, thread: Thread, step: Step) -> bool:
+        """A read of a signalfd: the first signal of its number that this sender sent. Those of one number do not queue up."""
+        text = TEXT.search(step.args)
+        raw = ESCAPED.sub(lambda it: chr(int(it[1], 8)) if it[1][0] in "01234567" else LETTERS.get(it[1], it[1]), text[1]) if text else ""
+        if len(raw) < SENDER_AT + 4:
+            return False
+        number, sender = ord(raw[0]), self.called(step.box, str(sum(ord(raw[SENDER_AT + n]) << 8 * n for n in range(4))))
+        queue = self.kills.get(thread.name) or self.kills.get(thread.process) or []
+        alike = [it for it in queue if NUMBERS.get(it[0]) == number]
+        sent = next((it for it in alike if it[1].who == sender), None)
+        if sent is not None:
+            for it in alike:
+                queue.remove(it)
+            return self.wait_for(thread, step, [sent[1]], "signal")
+        return number == signal.SIGCHLD and sender in self.ends and self.wait_for(thread, step, [self.ends[sender]], "wait")
+
+    def send(self, thread: Thread, step: Step) -> bool:
+        """A write to a pipe that was full waits for the read that made room."""
+        channel = channel_of(step.box, step.descriptor()[1], True)
+        if step.has_failed or channel is None or len(channel) != 2 or step.end - step.time < NO_WAIT:
+            return False
+        point = self.streams.room(channel)
+        return point is not None and self.wait_for(thread, step, [point], "pipe")
+
+    def wait(self, thread: Thread, step: Step) -> bool:
+        if step.has_failed:
+            return False
+        number = step.result
+        if step.name == "waitid":
+            found = SENDER.search(step.args)
+            number = found[1] if found else "0"
+        ended = self.ends.get(self.called(step.box, number)) if number != "0" else None
+        return ended is not None and self.wait_for(thread, step, [ended], "wait")
+
+    def forked(self, thread: Thread, step: Step) -> bool:
+        """vfork ends when the child has another program, or none any more."""
+        if step.has_failed or step.name != "vfork" and "VFORK" not in step.args:
+            return False
+        child = self.called(step.box, step.result)
+        point = self.programs.get(child) or self.ends.get(child)
+        return point is not None and self.wait_for(thread, step, [point], "fork")
+
+    def accept(self, thread: Thread, step: Step) -> bool:
+        found = ACCEPT.search(step.descriptor()[1])
+        queue = self.connects.get((step.box, found[1] or found[2])) if found and not step.has_failed else None
+        return bool(queue) and queue is not None and self.wait_for(thread, step, [queue.popleft()], "socket")
+
+    def poll(self, thread: Thread, step: Step) -> bool:
+        """Its time is thinking, until what it polled for shows."""
+        took = step.end - step.time
+        thread.clock += took
+        has_found = "EINTR" in step.tail or "ERESTART" in step.tail or not step.has_failed and step.result != "0"
+        thread.poll = (took, step.time) if has_found else None
+        self.tally.unexplained["poll"] += took
+        return True
+
+    def sleep(self, thread: Thread, step: Step) -> bool:
+        """A sleep is thinking, but for one between tries for a lock."""
+        if not thread.tries or "lock" not in self.kinds:
+            return False
+        self.tally.explained["lock"] += step.end - step.time
+        return True
+
+
+def kind_of(channel: Channel) -> str:
+    return "pipe" if len(channel) == 2 else "socket"
+
+
+def holder_of(step: Step, descriptor: int) -> Holder:
+    """Whose a record lock is: the process's, or of F_OFD_SETLK the descriptor's."""
+    return step.process, descriptor if "F_OFD" in step.args else -1
+
+
+def range_of(args: str) -> tuple[Range, str]:
+    """The bytes of a record lock, and its kind. One that does not begin at a place of the file is of the whole file."""
+    found = LOCK.search(args)
+    if found is None or found[2] != "SEEK_SET" or int(found[3]) < 0:
+        return Range(), found[1] if found else ""
+    first, length = min(int(found[3]), END - 1), int(found[4])
+    return Range(first, min(first + length, END) if length else END), found[1]
+
+
+def futex_of(step: Step, found: re.Match[str]) -> tuple[str, str]:
+    """Where a futex is: an address of a process, or of all that share it."""
+    return step.process if "PRIVATE" in found[2] + found[3] else step.box, found[1]
+
+
+# What is done at the beginning of a call, and at its end: True where it says what became of its time.
+Release = Callable[[Walk, Thread, Step, Point], None]
+Acquire = Callable[[Walk, Thread, Step], bool]
+
+RELEASES: dict[str, Release] = {
+    "fcntl": Walk.give_up, "flock": Walk.give_up_whole, "close": Walk.close, "futex": Walk.wake, "connect": Walk.connect,
+    "execve": Walk.program, "splice": Walk.splice, "sendfile": Walk.splice, "dup2": Walk.closed_by_copy, "dup3": Walk.closed_by_copy,
+    **dict.fromkeys(WRITES, Walk.write), **dict.fromkeys(KILLS, Walk.kill),
+}
+ACQUIRES: dict[str, Acquire] = {
+    "fcntl": Walk.lock, "flock": Walk.lock_whole, "futex": Walk.futex, "accept": Walk.accept, "accept4": Walk.accept,
+    "splice": Walk.receive, "sendfile": Walk.receive, **dict.fromkeys(READS, Walk.receive), **dict.fromkeys(WRITES, Walk.send),
+    **dict.fromkeys(WAITS, Walk.wait), **dict.fromkeys(FORKS, Walk.forked), **dict.fromkeys(POLLS, Walk.poll),
+    **dict.fromkeys(SLEEPS, Walk.sleep),
+}
+BEGUN_AGAIN = WAITS | READS | {"futex", "fcntl", "flock"}

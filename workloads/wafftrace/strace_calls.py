@@ -1,0 +1,162 @@
+"""The calls of a log of strace: whose each is, which process made which, and what a call asked and answered when it returns."""
+
+import collections
+import re
+from collections.abc import Iterable
+
+from .logs import Lines, Refusal
+from .order import Record
+from .processes import FORKED, FORKS, RESUMED, UNFINISHED, Birth, Children, Event, Process, Who, nanoseconds, parted
+from .strace_names import SAY_FOLDER, Call, absolute
+from .strace_requests import CALLS, Requests
+
+FLAGS_WANTED = "strace -f -ttt -T -o LOG"
+
+
+class Calls:
+    """Takes the lines of a log, and hands over each call that has returned."""
+
+    def __init__(
+        self, log: Lines, directory: str, births: dict[str, collections.deque[Birth]], with_number_later: set[str], requests: Requests,
+        order: Record | None,
+    ) -> None:
+        """`directory` is where the first process was started, `births` are the calls that made processes, `with_number_later` the boxes of
+        which the process without a number has one later."""
+        self.log = log
+        self.directory = directory
+        self.births = births
+        self.with_number_later = with_number_later
+        self.requests = requests
+        self.order = order
+        self.children = Children()
+        self.processes: dict[str, Process] = {}
+        self.attached: set[str] = set()
+        # The number of the process that had none, by box.
+        self.first_numbers: dict[str, str] = {}
+        # How many processes of a number have ended; a number may come again.
+        self.ended: collections.Counter[str] = collections.Counter()
+        self.has_first = False
+
+    def read(self, events: Iterable[Event]) -> None:
+        is_first = True
+        for at, event in enumerate(events):
+            if event.pid is None:
+                self.attached.add(event.rest)
+                continue
+            if is_first and event.time == 0:
+                raise Refusal(3, f"{self.log.name}: its times are from line to line (-r): record it with `{FLAGS_WANTED}`")
+            is_first = False
+            event.source.log.at(event.time)
+            if not self.event(at, event.pid, event):
+                event.source.log.not_understood(event.number, event.line)
+        pending = {id(it): it for it in self.processes.values() if it.pending is not None}
+        if pending:
+            self.log.without["calls that did not return"] += len(pending)
+        self.requests.report_idle()
+
+    def event(self, at: int, pid: str, event: Event) -> bool:
+        """Takes what a line tells of a process. False where it is not understood."""
+        time, rest = event.time, event.rest
+        process = self.processes.get(pid)
+        is_new = process is None
+        if process is None:
+            process = self.processes[pid] = self.newcomer(pid, event.source.box, at)
+        if rest.endswith(UNFINISHED):
+            if process.pending is not None:
+                self.log.without["calls that did not return"] += 1
+            process.pending, process.begun = (time, rest[: -len(UNFINISHED)]), at
+            self.log.without["beginnings of calls (<unfinished ...>: each call counts where it resumes)"] += 1
+            return "(" in rest
+        if rest.startswith("<... "):
+            if process.pending is None:
+                self.log.without["calls that began before the log"] += is_new
+                return is_new
+            time, begun = process.pending
+            process.pending = None
+            rest = begun + rest[rest.find(RESUMED) + len(RESUMED) :]
+            return self.call(at, process, time, rest, pid, process.begun)
+        elif rest.startswith(("+++ ", "--- ")):
+            self.log.without["signals and ends of processes"] += 1
+            if self.order is not None:
+                self.order.line(process.who, pid, process.box, at, time, rest)
+            if rest.startswith("+++ "):
+                self.children.ended(process.who)
+                if process.pending is not None:
+                    self.log.without["calls that did not return"] += 1
+                del self.processes[pid]
+                self.ended[pid] += 1
+            return True
+        return self.call(at, process, time, rest, pid, at)
+
+    def newcomer(self, pid: str, box: str, at: int) -> Process:
+        """A process that was not seen: the child of a call that has begun and returns later in the log; the first one, which a
+        log on standard error gives no number as long as it is alone; the child of the only call that makes one and never
+        returns; or else one from before the log."""
+        births = self.births.get(pid)
+        if births and births[0].begun < at:
+            birth = births.popleft()
+            parent = self.processes.get(birth.parent) or self.newcomer(birth.parent, box, at)
+            return self.born(parent, parent.child(self.name(pid), birth.args), pid, birth.begun)
+        first = self.processes.get(box) if box in self.with_number_later and pid not in self.attached else None
+        if first and self.first_numbers.setdefault(box, pid) == pid:
+            return first
+        pending = [(it, it.pending[1]) for it in self.processes.values() if it.pending is not None and it.box == box]
+        forking = [(it, text) for it, text in pending if FORKED.match(text)]
+        if len(forking) == 1 and not births:
+            parent, text = forking[0]
+            return self.born(parent, parent.child(self.name(pid), text), pid, parent.begun)
+        if forking:
+            self.log.notes[f"processes whose parent is not known: names in their folders are not known ({SAY_FOLDER})"] += 1
+        is_first, self.has_first = not self.has_first, True
+        name = self.name(pid, "main" if pid == box else "")
+        return Process(Who(name, name, (name,), is_first), {}, set(), [None if forking else self.directory], box)
+
+    def born(self, parent: Process, child: Process, pid: str, begun: int) -> Process:
+        """A process was made, by a call that began at this place."""
+        self.children.born(child.who)
+        if self.order is not None:
+            self.order.birth(child.who, pid, child.box, parent.who, begun)
+        return child
+
+    def name(self, pid: str, alone: str = "") -> str:
+        """What a process is called: its number, or how one without a number is, and which of this number it is if that came again."""
+        return pid + alone + (f".{self.ended[pid] + 1}" if self.ended[pid] else "")
+
+    def call(self, at: int, process: Process, time: int, rest: str, pid: str, begun: int) -> bool:
+        """Takes a call that has returned, and began at this place."""
+        name, bracket, args = rest.partition("(")
+        args, tail = parted(args) if bracket else ("", None)
+        if tail is None:
+            return False
+        before = len(self.requests.requests)
+        is_understood = self.returned(at, process, time, name, args, tail)
+        if self.order is not None:
+            took = nanoseconds(tail[4], tail[5]) if tail[5] else 0
+            what = name, args, tail[1], tail[3]
+            self.order.call(process.who, pid, process.box, (begun, at), (time, took), what, range(before, len(self.requests.requests)))
+        return is_understood
+
+    def returned(self, at: int, process: Process, time: int, name: str, args: str, tail: re.Match[str]) -> bool:
+        result, path, _, seconds, digits = tail.groups()
+        handler = CALLS.get(name)
+        if handler is None and name not in FORKS:
+            self.requests.idle[name] += 1
+        elif result == "?" or result[0] == "-":
+            self.log.without["calls that failed"] += 1
+        else:
+            took = nanoseconds(seconds, digits) if digits else None
+            answer = int(result, 16 if result.startswith("0x") else 10)
+            if handler is None:
+                self.fork(at, process, args, answer)
+                return True
+            return handler(self.requests, Call(process, args, answer, absolute(path), time, took)) is not False
+        return True
+
+    def fork(self, at: int, process: Process, args: str, answer: int) -> None:
+        """A call that makes a process has returned. Where lines of the child came before, it is there, and perhaps gone."""
+        self.requests.idle["fork"] += 1
+        child = process.box + str(answer)
+        births = self.births.get(child)
+        if births and births[0].returned == at:
+            birth = births.popleft()
+            self.processes[child] = self.born(process, process.child(self.name(child), args), child, birth.begun)
