@@ -95,8 +95,9 @@ class Steps:
     """Steps in the order of their ends."""
 
     def __init__(self) -> None:
-        # The places and times of their beginnings and ends; the first request of each, and how many it has.
-        self.begun, self.ended, self.time, self.end, self.first, self.count = (array("q") for _ in range(6))
+        # The places and times of their beginnings and ends; the first request of each, and how many it has. No time is above 2^64 ns.
+        self.begun, self.ended, self.first, self.count = (array("q") for _ in range(4))
+        self.time, self.end = array("Q"), array("Q")
         self.whose: list[Whose] = []
         # The name, the arguments, the result, and what stands behind it: the same texts come often.
         self.words: tuple[list[str], list[str], list[str], list[str]] = ([], [], [], [])

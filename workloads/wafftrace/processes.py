@@ -8,9 +8,9 @@ from dataclasses import dataclass
 
 from .logs import File, Lines, as_name, stem_of
 
-# A line: who, when, perhaps an instruction pointer (-i) or the number of a call (-n), and what.
+# A line: who, when (before the year 2286), perhaps an instruction pointer (-i) or the number of a call (-n), and what.
 HEAD = re.compile(
-    r"(?:\[pid +(\d{1,9})\] +|(\d{1,9}) +)?(\d{1,12})\.(\d{6}|\d{9}) (?:\[(?: *\d{1,4}|[0-9a-f?]{8,16})\] )*(.*)", re.ASCII
+    r"(?:\[pid +(\d{1,9})\] +|(\d{1,9}) +)?(\d{1,10})\.(\d{6}|\d{9}) (?:\[(?: *\d{1,4}|[0-9a-f?]{8,16})\] )*(.*)", re.ASCII
 )
 # What stands behind the arguments of a call: its result, perhaps the path of a descriptor or the two ends of a socket (-y, -yy), and
 # how long it took.
