@@ -5,8 +5,7 @@ In a block, a line that begins with `$ ` is a command, and the lines under it, u
 what it prints; a line `...` stands for lines that are left out. A call of waff has to be a case: the same words (but for
 `examples/`), what lays its files among the commands above it (but for what takes a file that cases share), and the output shown;
 what it prints by `>` to a file is not shown. A code span that begins with `waff: ` has to be the standard error of a case, a picture
-in SVG its standard output (of charts tests/report/run tells), and a block marked `toml` or `csv` a file that cases share. The table of
-speed-ups that README.md begins with has those of two cases of `waff limits`.
+in SVG its standard output (of charts tests/report/run tells), and a block marked `toml` or `csv` a file that cases share.
 """
 
 import re
@@ -23,7 +22,7 @@ NO_CASE = {"waff: Memory", "waff: Run", "waff: Threads 1"}
 
 
 def shows(case: Case, call: str, commands: set[str], output: list[str]) -> bool:
-    words, _, kept = call.replace("examples/", "").replace("< ", "<").removeprefix("./").partition(" >")
+    words, _, kept = call.replace("examples/", "").replace("< ", "<").removeprefix("./").removeprefix("dist/").partition(" >")
     setup = {line for line in case.setup.splitlines() if not line.startswith(("#", "cp box/")) and "inputs/" not in line}
     printed = ("" if kept else case.stream("|")) + case.stream("!")
     return case.command == words and setup <= commands and re.fullmatch(pattern(output), printed) is not None
@@ -33,17 +32,10 @@ def calls(page: str) -> Iterator[tuple[int, str, set[str], list[str]]]:
     """Each call of waff in the blocks of a page: its line's number, itself, the commands above it, its output."""
     above: set[str] = set()
     for number, command, output in commands_of(page):
-        if re.match(r"(\./)?waff ", command):
+        if re.match(r"(\./|dist/)?waff ", command):
             yield number, command, set(above), output
         else:
-            above.add(command)
-
-
-def speed_ups(every: list[Case], trace: str) -> str:
-    """A row of README's first table, behind its first cell: what the case of `limits` for eight workers on this trace prints."""
-    (case,) = [case for case in every if case.command == f"waff limits waffinity/tree.toml waffinity/{trace} --workers 8"]
-    rows = dict(line.split(",", 1) for line in case.stream("|").splitlines())
-    return " | ".join(rows[name].split(",")[2] for name in ("data", "tree", "order", "plan"))
+            above.add(command.replace("examples/", ""))
 
 
 def faults(commands: list[str]) -> list[str]:
@@ -75,7 +67,4 @@ def faults(commands: list[str]) -> list[str]:
         for block in re.findall(r"^```(?:toml|csv)\n(.*?)^```$", page, re.M | re.S):
             if block not in files:
                 found.append(f"{name}: no case has this file: {block.splitlines()[:1]}")
-    for name, trace in (("a write is one message", "one.csv"), ("a write is two messages", "two.csv")):
-        if f"| {name} | {speed_ups(every, trace)} |\n" not in read(ROOT / "README.md"):
-            found.append(f"README.md: no case of limits prints its row {name!r}")
     return found if shown_calls else [*found, "the pages show no call"]

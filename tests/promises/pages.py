@@ -11,7 +11,8 @@
   the same words.
 - Each entry of docs/DECISIONS.md has its reason, what it was chosen over, and its day; the page begins with its sections, in their order.
 - README.md names the logic that `dist/waff` was proved in.
-- What docs/guide.md tells of runs by four workers stands in bench/RESULTS.md, and nothing of that is left out.
+- What docs/guide.md and the head of bench/RESULTS.md tell of runs by four workers stands in the whole table of RESULTS.md, and nothing of
+  that is left out.
 """
 import functools
 import itertools
@@ -190,13 +191,14 @@ class Reader:
         self.tell(named == sections, page.name, f"its first lines name {named} where {sections} stand")
 
     def read_runs(self, guide, results):
-        """The rows of the guide: for each log what was told and what ran, under the first tree and under the searched one."""
+        """The rows of both pages: for each log what was told and what ran, under the first tree and under the searched one."""
         told = {}
         for log, _, _, workers, by_log, _, ran in rows_of(results, "log"):
             if workers == "4":
                 told.setdefault(log, []).extend([by_log, ran.split()[0]])
-        shown = {log: figures for log, *figures in rows_of(guide, "Work")}
-        self.tell(shown == told, guide.name, f"its figures of runs are not those of {results.name}: {told}")
+        for page in (guide, results):
+            shown = {log: figures for log, *figures in rows_of(page, "Work")}
+            self.tell(shown == told, page.name, f"its figures of runs are not those of the logs in {results.name}: {told}")
 
     def read_logic(self):
         logic = re.search(r"^logic: (\w+)$", (ROOT / "crates/waff/src/version.rt").read_text(), re.M)[1]
