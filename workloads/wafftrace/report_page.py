@@ -387,7 +387,25 @@ class Page:
         )
 
 
+# A style of a chart with colours of the page, and such a colour.
+PAINTED = re.compile(r'style="([^"]*\bvar\(--[^"]*)"')
+PAINT = re.compile(r"\b(fill|stroke): var\(--(\w+)\);? ?")
+
+
+def painted(found: re.Match[str]) -> str:
+    """A style with its colours as attributes, which any viewer knows, and as classes, which have those of light and dark."""
+    paints = PAINT.findall(found[1])
+    style = PAINT.sub("", found[1]).rstrip("; ")
+    attributes = [f'{what}="{LIGHT[name]}"' for what, name in paints]
+    classes = " ".join(f"{what}-{name}" for what, name in paints)
+    return " ".join([*attributes, f'class="{classes}"', *([f'style="{style}"'] if style else [])])
+
+
 def standing_alone(picture: str) -> str:
-    """A chart as a file of its own, with its colours."""
-    style = f"<style>{colours()}\nsvg{{background:var(--ground)}}text{{font-family:sans-serif}}</style>"
-    return re.sub(r"^(<svg [^>]*>)", lambda it: it[1] + style, picture, count=1) + "\n"
+    """A chart as a file of its own: with plain colours, and where a viewer knows variables with those of light and dark."""
+    used = sorted({("fill", "ground"), *(pair for it in PAINTED.findall(picture) for pair in PAINT.findall(it))})
+    rules = "".join(f".{what}-{name}{{{what}:var(--{name})}}" for what, name in used)
+    style = f"<style>text{{font-family:sans-serif}}\n@supports (fill:var(--ink)){{{colours()}\n{rules}}}</style>"
+    ground = f'<rect width="100%" height="100%" fill="{LIGHT["ground"]}" class="fill-ground"/>'
+    plain = PAINTED.sub(painted, picture)
+    return re.sub(r"^(<svg [^>]*>)", lambda it: it[1] + style + ground, plain, count=1) + "\n"
