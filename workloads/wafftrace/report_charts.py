@@ -46,7 +46,7 @@ PARTS = ("data and clients", "tree", "order", "workers", "plan")
 
 
 def stack_of(under: Under, workers: int) -> Stack:
-    """A limit is never less than those before it here, and none passes the length of the plan, which may serve in another order."""
+    """A limit is never less than those before it here, and none is above the length of the plan, which may serve in another order."""
     found: dict[str, int] = {}
     for row in under.limits.rows():
         if row["workers"] in ("-", str(workers)):
@@ -88,7 +88,7 @@ def allowed_of(under: Under) -> list[Row]:
 
 
 def least_of_any_tree(under: Under) -> int:
-    """The length that no tree passes, for the greatest number of workers. What is read alone may be shared under another one."""
+    """The length that no tree goes below, for the greatest number of workers. What is read alone may be shared under another one."""
     rows = {row["limit"]: int(row["length"]) for row in under.limits.rows() if row["workers"] in ("-", str(under.workers))}
     return max(rows["work"], rows["clients"], rows.get("after", 0), rows.get("writes", rows["data"]))
 
@@ -192,7 +192,7 @@ class Charts:
         return self.text(figure, name)
 
     def speeds(self, trees: list[Under], name: str) -> str:
-        """Speed-up against workers, with what no plan passes as a dashed line."""
+        """Speed-up against workers, with the upper bound of all plans as a dashed line."""
         figure, axes = self.new(3.2)
         top, widest = 1.0, 1
         for at, under in enumerate(trees):

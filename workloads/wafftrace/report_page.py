@@ -96,11 +96,11 @@ def stack_table(stacks: list[Stack]) -> str:
 def whose(clients: Row, by_client: dict[str, Row]) -> str:
     """The client whose time is a limit: with its pauses, or where it has none by what it asks for alone."""
     if clients["at"] == "-":
-        return "a message by itself, with its release, which no tree and no worker mends"
+        return "a message by itself, with its release: no tree and no worker makes it faster"
     row = by_client.get(clients["at"])
     if row is not None and row["cost"] == clients["length"]:
         return f"client {clients['at']}, which asks for one thing after another and never pauses: no tree and no worker makes it faster"
-    return f"client {clients['at']}, with its releases and thinking, which no tree and no worker mends"
+    return f"client {clients['at']}, with its releases and think times: no tree and no worker makes it faster"
 
 
 def cause(part: int, limits: dict[str, Row], by_client: dict[str, Row]) -> str:
@@ -108,24 +108,24 @@ def cause(part: int, limits: dict[str, Row], by_client: dict[str, Row]) -> str:
     data, clients, tree = (limits[it] for it in ("data", "clients", "tree"))
     after = limits.get("after", clients)
     if part == 0 and int(after["length"]) > max(int(data["length"]), int(clients["length"])):
-        return f"the order between clients, as the trace tells it: message {after['at']} is the last of a chain of messages that wait for each other"
+        return f"the order between clients, as the trace has it: message {after['at']} is the last of a chain of messages that wait for each other"
     if part == 0 and int(data["length"]) >= int(clients["length"]):
         return f"the cell {data['at']}: the messages that touch it run one after another under any tree"
     if part == 0:
         return whose(clients, by_client)
     return (
         f"the tree: the messages that run in {tree['at']} or above it exclude each other",
-        "the order of service",
-        "the workers, who have so much to do",
+        "the service order",
+        "the workers, who are never idle",
         "the plan itself: a better one may gain this",
     )[part - 1]
 
 
 def tree_costs(length: int, least: int) -> str:
-    """What a tree costs beside what no tree passes."""
+    """What a tree costs beside the lower bound for all trees."""
     if length <= least:
         return "and no tree has less"
-    return f"of which the tree and the order of service cost at most <b>{per_cent(length - least, length)}</b> (no tree has less than {least:,})"
+    return f"of which the tree and the service order cost at most <b>{per_cent(length - least, length)}</b> (no tree has less than {least:,})"
 
 
 class Page:
@@ -215,10 +215,10 @@ class Page:
             tables.append(f"<div>{self.heading(under)}{found}</div>")
         self.section(
             "limits", "What limits it",
-            "<p>A plan is no shorter than any limit but the last two, whatever the order. <b>data</b>: the messages that touch one cell. No"
-            " tree mends these. <b>clients</b>: a client's messages and thinking. <b>work</b>: all costs over the workers. <b>tree</b>: the"
-            " messages at or above one affinity. <b>order</b>: the plan without a limit on workers, in the order of service. <b>plan</b>: the"
-            " plan for so many workers.</p>",
+            "<p>Each limit but the last two is a lower bound on the length (makespan) of plans in any order. <b>data</b>: the messages that touch"
+            " one cell, under every tree. <b>clients</b>: a client's messages and think times. <b>work</b>: all costs over the workers."
+            " <b>tree</b>: the messages at or above one affinity. <b>order</b>: the plan without a limit on workers, in the service order."
+            " <b>plan</b>: the plan for the workers.</p>",
             f'<div class="charts">{"".join(charts)}</div>' if self.charts else "", f'<div class="charts">{"".join(tables)}</div>',
             stack_table(stacks), made_by(*(it.limits for it in report.trees)),
         )
@@ -227,7 +227,7 @@ class Page:
         trees = self.report.trees
         chart = figure(
             self.chart("chart-speeds", "speeds", trees),
-            "Speed-up against workers. No plan passes the dashed line of its colour (least). Dotted: twice as fast with twice the workers.",
+            "Speed-up against workers. No plan is above the dashed line of its colour (least). Dotted: twice as fast with twice the workers.",
         )
         columns = {"workers": "workers", "length": "length", "speedup": "speed-up", "busy": "busy", "least": "least", "over": "over",
                    "waits": "waits", "mean": "mean", "p50": "p50", "p99": "p99", "latency": "greatest"}
@@ -235,9 +235,9 @@ class Page:
         for number, it in enumerate(trees):
             tables += [self.heading(it), table(it.sweep.rows(), columns, f"table-sweep-{number}")]
         self.section(
-            "speed", "How much more workers bring", chart,
+            "speed", "Whether more workers help", chart,
             *tables,
-            "<p class=\"quiet\">No plan for so many workers is shorter than <b>least</b> ticks; of a trace of version 1 or 2 none that serves in"
+            "<p class=\"quiet\">No plan for as many workers is shorter than <b>least</b> ticks, the lower bound; of a trace of version 1 or 2 none that serves in"
             " the order of arrival. <b>over</b> is the length over least. mean, p50, p99 and greatest are latencies, from the issue of a"
             " message to its finish. <b>-</b>: for any number of workers.</p>",
             made_by(*(it.sweep for it in trees)),

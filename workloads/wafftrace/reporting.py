@@ -53,7 +53,7 @@ def words() -> ArgumentParser:
     )
     top.add_argument(
         "--pricings", choices=["ten", "none"], default="ten",
-        help="of several hierarchies say first what each gains over the first one, also at ten other pricings (ten, without this word too)",
+        help="of several hierarchies say first what each gains over the first one, also at ten other pricings (ten, the default)",
     )
     top.add_argument("--charts", metavar="DIR", help="write each chart to a file in this folder too, as SVG")
     program_word(top)

@@ -164,7 +164,7 @@ def words() -> ArgumentParser:
     )
     top.add_argument(
         "--pricings", choices=["ten", "none"], default="ten",
-        help="plan both trees at ten pricings too, and tell whether the gain holds (ten, without this word too); none tells nothing of it",
+        help="plan both trees at ten pricings too, and say whether the gain holds (ten, the default); none leaves that out",
     )
     words_of_search(top)
     top.add_argument("--write", metavar="FILE", help="write the best of the trees that are tried to this file; a search writes it after each change")
@@ -177,7 +177,7 @@ def words_of_search(top: ArgumentParser) -> None:
     top.add_argument(
         "--search", action="store_true",
         help="search for a tree instead: change the unit, the number of stripes or the affinities of one space after another, or of"
-        " two together, each time as is best, until nothing gains; tells each change, and what no tree passes",
+        " two together, each time as is best, until nothing gains; prints each change, and the lower bound for all trees",
     )
     top.add_argument(
         "--any-place", action="store_true", default=None,
@@ -191,11 +191,11 @@ def words_of_search(top: ArgumentParser) -> None:
     top.add_argument("--most", type=number(1, limits.AFFINITIES, "number"), metavar="N", help="how many affinities a tree of a search may have")
     top.add_argument(
         "--enough", type=decimal(Fraction(0), 1000, "part"), metavar="PERCENT",
-        help="end the search at a length that is so little more than what no tree passes (1)",
+        help="end the search at a length that is at most so many percent above the lower bound for all trees (1)",
     )
     top.add_argument(
         "--curve", action="store_true", default=None,
-        help=f"print the best tree of at most {', '.join(map(str, CAPS))} affinities in place of the changes, and what no tree passes",
+        help=f"print the best tree of at most {', '.join(map(str, CAPS))} affinities in place of the changes, and the lower bound for all trees",
     )
     top.add_argument(
         "--minutes", type=decimal(Fraction(1, 10000), 100000, "time"), metavar="M",

@@ -39,7 +39,7 @@ What a cost is: the time for which a message holds its affinity and a worker. `-
 file: without `--prices` the installed one, which was measured on one machine (workloads/README.md shows how to measure yours).
 `--cost latency` takes the latency of the log, which is a cost only where the request did not wait: in a queue, for a lock, for the
 disk. A plan adds the waits of its own tree and workers, and then they count twice. `--cost size` takes `--base` microseconds and
-`--per-kib` for each KiB begun, whatever the kind. Standard error tells which kinds cost most by prices and by latencies; where these
+`--per-kib` for each KiB begun, whatever the kind. Standard error says which kinds cost most by prices and by latencies; where these
 differ, plan both (`--also latency=FILE`).
 
 What is left out: in a trace without clients there is no order but that of what excludes each other. Two messages of one client run side
@@ -130,7 +130,7 @@ def imported(part: ArgumentParser) -> None:
     part.add_argument("--tick", type=tick, metavar="MICROSECONDS", default=1000, help="microseconds in a tick (1)")
     part.add_argument(
         "--cost", choices=prices.KINDS,
-        help="cost by a table of prices (table, without this word too), by the latency in the log, or by the size alone",
+        help="cost by a table of prices (table, the default), by the latency in the log, or by the size alone",
     )
     part.add_argument(
         "--base", type=nanoseconds, metavar="MICROSECONDS",
@@ -169,12 +169,12 @@ def of_clients(part: ArgumentParser, kinds: tuple[str, ...], usual: str, has_lan
     )
     part.add_argument(
         "--trace-version", choices=["2", "3"],
-        help="the version of the trace: 3, without this word too, or 2, which has no clients and no ranges (--clients none)",
+        help="the version of the trace: 3, the default, or 2, which has no clients and no ranges (--clients none)",
     )
     part.add_argument(
         "--loop", choices=["closed", "open"],
-        help="whether a client's request comes so long after the answer to the one before as it did (closed, without this word too), or"
-        " when it did (open)",
+        help="a closed loop, the default: a request comes a think time after the answer to the client's request before; or an open one:"
+        " it comes when it did in the log",
     )
     if has_depth:
         part.add_argument(
@@ -313,7 +313,7 @@ def words_of_logs(part: Callable[..., ArgumentParser]) -> None:
     found.add_argument("--port", type=number(1, 65535, "port"), metavar="N", default=2049, help="with --how: the server's port (2049)")
     found.add_argument(
         "--alloc", choices=["write", "commit"], default="write",
-        help="when what is written without being stable takes blocks: at once (write, without this word too), or at its COMMIT",
+        help="when what is written without being stable takes blocks: at once (write, the default), or at its COMMIT",
     )
     found.add_argument("--entries", action="store_true", help="a READDIRPLUS reads the inodes of its entries too")
     imported(found)
