@@ -9,9 +9,6 @@ SCRIPTS = {"waff-trace": "words", "waff-tune": "tuning", "waff-report": "reporti
 
 def called(name: str) -> None:
     """Runs the script of this name, and ends with its status. An older Python has to understand this module."""
-    if name not in SCRIPTS:
-        sys.stderr.write("{}: no script has this name, but {}\n".format(name, ", ".join(SCRIPTS)))
-        sys.exit(2)
     if sys.version_info < (3, 11):
         sys.stderr.write("{}: wanted is Python 3.11, and this is {}.{}\n".format(name, *sys.version_info[:2]))
         sys.exit(4)
