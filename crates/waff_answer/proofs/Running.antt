@@ -12,13 +12,13 @@ use Rattle.waff_run.specs.declared.fault.RunError.TheVariants as run
 use Rattle.waff_answer.specs.Runs.{HasPart, IsRunText, RefusesRun}
 
 -- where the text of a run was not written whole, the output has nothing or a part of it
-pub has_part : {A : Type 0} (hierarchy_file trace_file : List ℕ) (k : ℕ) (text : List ℕ) (old new : Option (List ℕ)) (written : Result A RunError)
-    → IsRunText hierarchy_file trace_file k text → IfErr written (λ error. error ≡ run.Tool tool.Write)
+pub has_part : {A : Type 0} (hierarchy_file trace_file : List ℕ) (k tick : ℕ) (text : List ℕ) (drift : Option ℕ) (old new : Option (List ℕ))
+    (written : Result A RunError) → IsRunText hierarchy_file trace_file k tick text drift → IfErr written (λ error. error ≡ run.Tool tool.Write)
     → IfErr written (λ _. Keeps old new ⊎ AppendsPart old new text)
-    → IfErr written (λ error. HasPart hierarchy_file trace_file k error old new)
-has_part hierarchy_file trace_file k text old new (Ok a) is fault part = tt
-has_part hierarchy_file trace_file k text old new (Err e) is fault (inl keeps) = inl keeps
-has_part hierarchy_file trace_file k text old new (Err e) is fault (inr part) = inr (fault, text, is, part)
+    → IfErr written (λ error. HasPart hierarchy_file trace_file k tick error old new)
+has_part hierarchy_file trace_file k tick text drift old new (Ok a) is fault part = tt
+has_part hierarchy_file trace_file k tick text drift old new (Err e) is fault (inl keeps) = inl keeps
+has_part hierarchy_file trace_file k tick text drift old new (Err e) is fault (inr part) = inr (fault, text, drift, is, part)
 
 -- an error of a run of accepted files tells why there is none
 pub refuses_run : (hierarchy_file trace_file : List ℕ) (instance : Instance) → Accepts hierarchy_file trace_file instance

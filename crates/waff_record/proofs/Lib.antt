@@ -1,9 +1,12 @@
 mod Alike
-mod ByIssue
+mod Counted
 mod Kept
-mod ServedByIssue
-mod Turns
+mod Measured
+mod Pass
+mod Placing
 mod Ran
+mod Rows
 mod Sooner
 mod Telling
 mod Unique
+mod Walking

@@ -5,7 +5,7 @@ use Rattle.waff_assign.specs.Order.{affinity_of}
 use Rattle.waff_plan.specs.Work.{Work, IsAmongFirst, IsNumber, finish_of, issue_of}
 use Rattle.waff_line.specs.Machine.{Course}
 use Rattle.waff_line.specs.declared.turn.Turn.{Turn}
-use Rattle.waff_record.specs.Runs.{turn_at}
+use Rattle.waff_record.specs.Turns.{turn_at}
 
 -- message i goes before message m: it began first, and they exclude each other, or ran on one worker
 pub record GoesBefore (course : Course) (turns : List Turn) (i m : ℕ) : Type 0 where
