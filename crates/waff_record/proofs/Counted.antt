@@ -23,5 +23,5 @@ as_many_in course s (event ∷ events) t runs = as_many_in course runs.0 events 
 
 pub turns_of_all : (course : Course) (turns : List Turn) → AreRunTurns course turns → length turns ≡ course.work.count
 turns_of_all course turns ran =
-    sym (length-map shown turns) ∙ (ap length ran.shown
+    sym (length-map turns shown) ∙ (ap length ran.shown
     ∙ (as_many_in course (opening course) ran.events ran.state ran.run ∙ length-replicate {A = Seen} course.work.count no_turn))

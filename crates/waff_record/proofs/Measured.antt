@@ -29,9 +29,9 @@ module _ (trace measured : Arrivals) (is : IsMeasured trace measured) where
   clients_alike : clients_of measured.messages ≡ clients_of trace.messages
   clients_alike =
       ext_get_or [] (clients_of measured.messages) (clients_of trace.messages)
-      (length-map (λ (message : Message). message.client) measured.messages ∙ (is.count ∙ sym (length-map (λ (message : Message). message.client) trace.messages)))
+      (length-map measured.messages (λ (message : Message). message.client) ∙ (is.count ∙ sym (length-map trace.messages (λ (message : Message). message.client))))
       (λ k within.
-      let many = length-map (λ (message : Message). message.client) measured.messages in
+      let many = length-map measured.messages (λ (message : Message). message.client) in
       let count = is.count in
       let short : k < length trace.messages = omega (arith, within, many, count) in
       client_at measured.messages k (omega (arith, short, count)) ∙ ((same_at k short).client ∙ sym (client_at trace.messages k short)))

@@ -1,6 +1,7 @@
 pub mod Turns
 pub mod Rounded
 pub mod Laws
+pub mod Begun
 pub mod Drift
 pub mod Ran
 pub mod Runs

@@ -1,17 +1,23 @@
 //! The rounding of the turns of a run, whose times are nanoseconds, to ticks.
 
-ghost use Rattle.std.specs.Prelude.{◌≡◌, ◌≤◌, ◌+◌, ◌/◌, ℕ, max, length, map, IfOk, IfSome, MatchOption};
+ghost use Rattle.std.specs.Prelude.{◌≡◌, ◌≤◌, ◌<◌, ◌+◌, ◌-◌, ◌/◌, max, length, map, slice_index};
+ghost use Rattle.std.specs.Prelude.{IfOk, IfSome, MatchOption};
+ghost use Rattle.waff_model.specs.Numbers.{IsAmongFirst};
+ghost use Rattle.waff_model.specs.Preorder.{AreNested};
 ghost use Rattle.waff_model.specs.declared.limits.TheConstants.{MAX_COST, MAX_MESSAGES};
-ghost use Rattle.waff_plan.specs.ByStart.{AreByStart};
-ghost use Rattle.waff_plan.specs.Timing.{start_of};
-ghost use Rattle.waff_plan.specs.Work.{Work};
+ghost use Rattle.waff_plan.specs.ByStart.{started_at};
+ghost use Rattle.waff_plan.specs.Table.{message_span};
+ghost use Rattle.waff_record.specs.Begun.{IsBegun};
 ghost use Rattle.waff_record.specs.Ran.{HasRun, IsToldOf};
+ghost use Rattle.waff_record.specs.Turns.{turn_at};
 ghost use Rattle.waff_record.specs.declared.rounding.TheConstants.{MAX_RUN};
 
 use crate::fault::RecordError;
 use crate::turns::RunTurns;
 use std::alloc::{AllocError, Global};
+use waff_assign::Case;
 use waff_line::Turn;
+use waff_model::Span;
 use waff_model::limits::{MAX_COST, MAX_TICK, MAX_WORKERS};
 use waff_plan::{Latest, Plan, Started, Table, by_tick};
 
@@ -23,6 +29,7 @@ const MAX_RUN: u64 = MAX_TICK / MAX_WORKERS as u64;
 #[derive(Clone, Copy)]
 struct ToldTurn {
     start: u64,
+    finish: u64,
     cost: u32,
 }
 
@@ -33,25 +40,25 @@ pub fn rounded(alloc: Global, run: &RunTurns<'_>) -> Result<Plan, RecordError>
     ensures version { IfOk result (λ plan. plan.version ≡ run.now.case.trace.now.version) }
     ensures told { IfOk result (IsToldOf run.now) }
 {
-    let case = &run.case;
-    let tick = u64::from(run.tick);
-    let mut plan = Plan::unstarted(alloc, case.trace)?;
+    let mut plan = Plan::unstarted(alloc, run.case.trace)?;
+    let count = plan.len();
     let began = by_begin(alloc, run.turns)?;
-    let mut table = Table::new(alloc, case.tree.len() as usize)?;
+    let mut table = Table::new(alloc, run.case.tree.len() as usize)?;
     let mut free = vec![in alloc; 0; run.workers as usize]?;
-    let spans = case.tree.spans();
-    for place in 0..plan.len() {
-        let m = began[place as usize].number;
-        let turn = &run.turns[m as usize - 1];
-        let span = spans[case.assigned.of(m).0 as usize];
-        let seat = turn.worker as usize - 1;
-        let issue = plan.issue(m).max(free[seat]);
-        let Some(told) = told_of(turn, tick, issue, table.latest(span)) else {
+    let spans = run.case.tree.spans();
+    for place in 0..count {
+        let m = number_at(&began, place);
+        let turn = turn_at(run.turns, m);
+        let span = span_of(&run.case, spans, m);
+        let issue = plan.issue(m);
+        let rest = free_from(&free, turn.worker);
+        let latest = table.latest(span);
+        let Some(told) = told_of(turn, run.tick, issue, rest, latest) else {
             return Err(RecordError::Tick(m));
         };
         plan.set_turn(m, told.start, told.cost);
-        let finish = told.start + u64::from(told.cost);
-        free[seat] = finish;
+        free[turn.worker as usize - 1] = told.finish;
+        let finish = told.finish;
         table.note(span, Latest { finish, number: m });
     }
     Ok(plan)
@@ -60,8 +67,7 @@ pub fn rounded(alloc: Global, run: &RunTurns<'_>) -> Result<Plan, RecordError>
 /// The messages in the order in which they began.
 fn by_begin(alloc: Global, turns: &[Turn]) -> Result<Vec<Started>, AllocError>
     requires few { length turns.now ≤ MAX_MESSAGES }
-    ensures { IfOk result (λ began. (work : Work) → work.count ≡ length turns.now
-        → AreByStart work (start_of (map (λ turn. turn.start) turns.now)) began.items) }
+    ensures { IfOk result (IsBegun turns.now) }
 {
     let starts = starts_of(alloc, turns)?;
     by_tick(alloc, starts.as_slice())
@@ -74,20 +80,62 @@ fn starts_of(alloc: Global, turns: &[Turn]) -> Result<Vec<u64>, AllocError>
     turns.iter().map(|turn| turn.start).collect(alloc)
 }
 
-/// What is told of a turn of a message that may start at this tick, and after the latest of those that exclude it and began
-/// before it. None where it finishes too late, or runs for too long.
-fn told_of(turn: &Turn, tick: u64, from: u64, latest: Option<Latest>) -> Option<ToldTurn>
+/// The number of the message at a place, from 0.
+fn number_at(began: &Vec<Started>, place: u32) -> u32
+    requires within { place < length began.now.items }
+    ensures { result ≡ (started_at began.now.items place).number }
+{
+    began[place as usize].number
+}
+
+/// The turn of message `m`.
+fn turn_at<'a>(turns: &'a [Turn], m: u32) -> &'a Turn
+    requires number { IsAmongFirst (length turns.now) m }
+    ensures { result.now ≡ turn_at turns.now m }
+{
+    &turns[m as usize - 1]
+}
+
+/// The span of the affinity of message `m`.
+fn span_of(case: &Case<'_>, spans: &[Span], m: u32) -> Span
+    requires number { IsAmongFirst (length case.now.assigned.now) m }
+    requires nested { AreNested case.now.tree.now spans.now }
+    ensures span { result ≡ message_span spans.now case.now.assigned.now m }
+    ensures forward { result.first < result.end }
+    ensures within { result.end ≤ length case.now.tree.now }
+{
+    spans[case.assigned.of(m).0 as usize]
+}
+
+/// The tick from which on a worker is free.
+fn free_from(free: &Vec<u64>, worker: u32) -> u64
+    requires worker { IsAmongFirst (length free.now.items) worker }
+    ensures { result ≡ slice_index free.now.items (worker - 1) }
+{
+    free[worker as usize - 1]
+}
+
+/// What is told of a turn of a message that is issued at this tick, whose worker is free from a tick on, after the latest of
+/// those that exclude it and began before it. None where it finishes too late, or runs for too long.
+fn told_of(
+    turn: &Turn,
+    tick: u32,
+    issue: u64,
+    free: u64,
+    latest: Option<Latest>,
+) -> Option<ToldTurn>
     requires tick { 1 ≤ tick }
     ensures start { IfSome result (λ told. MatchOption latest
-        (told.start ≡ max (turn.now.start / tick) from)
-        (λ l. told.start ≡ max (max (turn.now.start / tick) from) l.finish)) }
+        (told.start ≡ max (turn.now.start / tick) (max issue free))
+        (λ l. told.start ≡ max (max (turn.now.start / tick) (max issue free)) l.finish)) }
     ensures finish { IfSome result (λ told.
-        told.start + told.cost ≡ max (turn.now.finish / tick) (told.start + 1)) }
-    ensures early { IfSome result (λ told. told.start + told.cost ≤ MAX_RUN) }
+        told.finish ≡ max (turn.now.finish / tick) (told.start + 1)) }
+    ensures cost { IfSome result (λ told. told.start + told.cost ≡ told.finish) }
+    ensures early { IfSome result (λ told. told.finish ≤ MAX_RUN) }
     ensures some { IfSome result (λ told. 1 ≤ told.cost) }
     ensures short { IfSome result (λ told. told.cost ≤ MAX_COST) }
 {
-    let begun = (turn.start / tick).max(from);
+    let begun = (turn.start / u64::from(tick)).max(issue.max(free));
     let start = match latest {
         Some(latest) => begun.max(latest.finish),
         None => begun,
@@ -95,13 +143,14 @@ fn told_of(turn: &Turn, tick: u64, from: u64, latest: Option<Latest>) -> Option<
     if start >= MAX_RUN {
         return None;
     }
-    let finish = (turn.finish / tick).max(start + 1);
+    let finish = (turn.finish / u64::from(tick)).max(start + 1);
     let cost = finish - start;
     if finish > MAX_RUN || cost > u64::from(MAX_COST) {
         return None;
     }
     Some(ToldTurn {
         start,
+        finish,
         cost: cost as u32,
     })
 }
