@@ -8,9 +8,10 @@ use Rattle.waff_plan.specs.Work.{Work, IsNumber, finish_of}
 use Rattle.waff_plan.specs.Workers.{running}
 use Rattle.waff_check.specs.Promises.{AreOneAtATime}
 use Rattle.waff_line.specs.Machine.{Course}
+use Rattle.waff_line.specs.Scaled.{scaled}
 use Rattle.waff_line.specs.Turns.{AreRunTurns}
 use Rattle.waff_line.specs.declared.turn.Turn.{Turn}
-use Rattle.waff_record.specs.Rounded.{IsRounded, scaled}
+use Rattle.waff_record.specs.Rounded.{IsRounded}
 use Rattle.waff_record.specs.Runs.{turn_at}
 
 -- the work as it was measured, in nanoseconds: each message costs what lies between its start and its finish
