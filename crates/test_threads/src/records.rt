@@ -1,4 +1,4 @@
-//! A run whose events are told by hand.
+//! A run whose events are told by hand, with ticks of a nanosecond.
 
 ghost use Rattle.waff_plan.specs.Bound.{IsWorkers};
 
@@ -102,7 +102,7 @@ fn recorded<R: Abort + Threads + Sync>(
 {
     let (hierarchy, trace) = (HIERARCHY.as_bytes(), TRACE.as_bytes());
     let accepted = accepted(rt, alloc, TRACE);
-    let mut line = Line::of(alloc, accepted.case(), 2).expect(rt, "memory");
+    let mut line = Line::of(alloc, accepted.case(), 2, 1).expect(rt, "memory");
     begin_first(rt, &mut line);
     wait_for_third(rt, &mut line);
     end_all(rt, &mut line);
@@ -128,7 +128,7 @@ fn refuses_a_worker_too_few(rt: HostRuntime) {
 #[test]
 fn ends_where_a_message_runs_too_long(rt: HostRuntime) {
     let accepted = accepted(&rt, rt.alloc(), TRACE);
-    let mut line = Line::of(rt.alloc(), accepted.case(), 1).expect(&rt, "memory");
+    let mut line = Line::of(rt.alloc(), accepted.case(), 1, 1).expect(&rt, "memory");
     line.tell(1);
     assert!(rt; joins(&rt, &mut line));
     assert_eq!(rt; line.begin(1).ok(), Some(Some(1)));

@@ -1,29 +1,18 @@
 -- What holds of the rounding of the turns of a run.
 use Rattle.std.specs.Prelude.{◌≡◌, ℕ, ◌-◌, ◌≤◌, List, length}
-use Rattle.waff_assign.specs.Instance.{Instance}
 use Rattle.waff_assign.specs.Order.{IsOrdered, Relation}
 use Rattle.waff_plan.specs.Apart.{AreApart}
 use Rattle.waff_plan.specs.Obeys.{EachRuns, FollowsEarlier, KeepsOrder, StartsIssued}
 use Rattle.waff_plan.specs.Serving.{served_before}
-use Rattle.waff_plan.specs.Timetable.{work_of_messages}
 use Rattle.waff_plan.specs.Work.{Work, IsNumber, finish_of}
 use Rattle.waff_plan.specs.Workers.{running}
 use Rattle.waff_check.specs.Promises.{AreOneAtATime}
 use Rattle.waff_line.specs.Machine.{Course}
+use Rattle.waff_line.specs.Scaled.{scaled}
 use Rattle.waff_line.specs.Turns.{AreRunTurns}
 use Rattle.waff_line.specs.declared.turn.Turn.{Turn}
-use Rattle.waff_record.specs.Rounded.{IsRounded, scaled}
+use Rattle.waff_record.specs.Rounded.{IsRounded}
 use Rattle.waff_record.specs.Turns.{turn_at, worker_of}
-
--- what a run of an instance by so many workers is of, where a tick of its trace is so many nanoseconds
-abbrev pub run_course : Instance → ℕ → ℕ → Course
-run_course instance workers tick = record {
-  version = instance.trace.version;
-  tree = instance.tree;
-  assigned = instance.assigned;
-  work = scaled tick (work_of_messages instance.trace.messages);
-  workers = workers;
-}
 
 -- the work as it was measured, in nanoseconds: each message costs what lies between its start and its finish
 abbrev pub measured_by : Course → List Turn → Work

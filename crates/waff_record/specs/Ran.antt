@@ -4,15 +4,14 @@ use Rattle.waff_assign.specs.Case.{instance_of}
 use Rattle.waff_plan.specs.Timetable.{Timetable, starts_in, work_in, work_of_messages}
 use Rattle.waff_plan.specs.Work.{Work}
 use Rattle.waff_line.specs.Machine.{Course}
-use Rattle.waff_line.specs.Turns.{AreRunTurns}
-use Rattle.waff_record.specs.Laws.{run_course}
+use Rattle.waff_line.specs.Turns.{AreRunTurns, course_by}
 use Rattle.waff_record.specs.Rounded.{IsRounded}
 use Rattle.waff_record.specs.declared.told_run.ToldRun.{ToldRun}
 use Rattle.waff_record.specs.declared.turns.RunTurns.{RunTurns}
 
 -- its course, in nanoseconds
 abbrev pub course_run : RunTurns → Course
-course_run run = run_course (instance_of run.case) run.workers run.tick
+course_run run = course_by (instance_of run.case) run.workers run.tick
 
 -- the work of its messages, in ticks
 abbrev pub ticks_run : RunTurns → Work

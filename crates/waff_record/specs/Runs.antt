@@ -17,10 +17,11 @@ use Rattle.waff_check.specs.Promises.{AreOneAtATime, Promises}
 use Rattle.waff_check.specs.Verdicts.{Claim, IsVerdict, claim_of, pairs_of_claim, start_in, starts_of}
 use Rattle.waff_check.specs.Verdicts.{told_finish, work_of_claim, worker_in, workers_in}
 use Rattle.waff_check.specs.declared.verdict.Verdict.{Verdict}
+use Rattle.waff_line.specs.Turns.{course_by}
 use Rattle.waff_line.specs.declared.turn.Turn.{Turn}
 use Rattle.waff_inputs.specs.Inputs.{Accepts}
 use Rattle.waff_record.specs.Drift.{drift_of, last_finish}
-use Rattle.waff_record.specs.Laws.{run_course, run_order}
+use Rattle.waff_record.specs.Laws.{run_order}
 use Rattle.waff_record.specs.Rounded.{IsRounded}
 use Rattle.waff_record.specs.Turns.{worker_of}
 
@@ -79,11 +80,11 @@ TellsRows given plan turns count = (n : ℕ) → IsAmongFirst count n → TellsR
 --   issued first by the clock of the run, before the third version the one that comes first in the trace
 pub record IsPlanOf (ran : Instance) (k tick : ℕ) (turns : List Turn) (claim : Claim) : Type 0 where
   pub count : length turns ≡ length claim.instance.trace.messages
-  pub rounded : IsRounded (run_course ran k tick) (work_of_messages ran.trace.messages) tick turns
+  pub rounded : IsRounded (course_by ran k tick) (work_of_messages ran.trace.messages) tick turns
       (work_of_claim claim) (start_in claim)
   pub workers : (n : ℕ) → IsNumber (work_of_claim claim) n
       → worker_in claim.plan n ≡ worker_of turns n
-  pub order : KeepsOrder (run_order (run_course ran k tick) turns)
+  pub order : KeepsOrder (run_order (course_by ran k tick) turns)
       (work_of_claim claim) (start_in claim)
 
 -- a text is that of such a plan, for the messages of an instance; and by how many per cent it is longer than what was

@@ -9,12 +9,13 @@ ghost use Rattle.waff_run.specs.Texts.{TellRun};
 
 use crate::calls::longest_call;
 use crate::fault::{RunError, Stopped};
+use crate::pace::Pace;
 use crate::perform::{Room, fill};
 use crate::places::Places;
 use crate::spots::spots;
 use crate::store::{Store, file_name};
 use crate::syncing::Syncs;
-use crate::workers::{Pace, run};
+use crate::workers::run;
 use std::alloc::{AllocError, Global};
 use std::marker::Sync;
 use std::rt::Clock;
@@ -52,7 +53,7 @@ pub fn run_on<R: Threads + Wait + Clock + Eprint + Sync, S: Store + Sync>(
     requires workers { IsWorkers settings.now.pace.workers }
     ensures told { IfOk result (λ ran. TellRun hierarchy.now
         (instance_under accepted.now.layout accepted.now.assigned accepted.now.trace)
-        settings.now.pace.workers (string_bytes ran.measured) (string_bytes ran.text)) }
+        settings.now.pace.workers settings.now.pace.tick (string_bytes ran.measured) (string_bytes ran.text)) }
     ensures refused { IfErr result (IsOfRun (length accepted.now.trace.messages)) }
 {
     let turns = turns_of(rt, alloc, accepted, store, places, settings)?;
@@ -84,7 +85,7 @@ fn turns_of<R: Threads + Wait + Clock + Eprint + Sync, S: Store + Sync>(
 ) -> Result<Vec<Turn>, RunError>
     requires workers { IsWorkers settings.now.pace.workers }
     ensures ran { IfOk result (λ turns. AreRunTurns (course_by (instance_under accepted.now.layout
-        accepted.now.assigned accepted.now.trace) settings.now.pace.workers) turns.items) }
+        accepted.now.assigned accepted.now.trace) settings.now.pace.workers settings.now.pace.tick) turns.items) }
     ensures refused { IfErr result (IsOfRun (length accepted.now.trace.messages)) }
 {
     let longest = longest_call(&accepted.trace, places);
