@@ -192,13 +192,9 @@ fn write_run<R: Threads + Wait + Clock + Files + Opens + Eprint + Sync, W: Write
 {
     match ran(rt, alloc, task) {
         Ok(RanOnFiles { told, part }) => {
-            let drift = told.drift;
             let written = write_texts(rt, alloc, task, &told, part, out);
             drop(told);
-            match written {
-                Ok(advice) => Ok(Went { drift, advice }),
-                Err(error) => Err(error),
-            }
+            written
         }
         Err(error) => Err(error),
     }
@@ -212,8 +208,9 @@ fn write_texts<R: Threads + Files + Sync, W: Write>(
     told: &Recorded,
     part: Option<Part>,
     out: &mut W,
-) -> Result<Advice, RunError>
-    ensures quiet { IfOk result (λ advice. task.now.loud ≡ false → advice_text advice ≡ []) }
+) -> Result<Went, RunError>
+    ensures quiet { IfOk result (λ went. task.now.loud ≡ false → advice_text went.advice ≡ []) }
+    ensures drift { IfOk result (λ went. went.drift ≡ told.now.drift) }
     ensures written { OnOk result
         (Appends (W.contents out.old) (W.contents out.new) (string_bytes told.now.text)) }
     ensures fault { IfErr result (λ error. error ≡ run.Tool tool.Write) }
@@ -225,7 +222,10 @@ fn write_texts<R: Threads + Files + Sync, W: Write>(
         Err(error) => return Err(error),
     }
     match write_text(out, told.text.as_bytes()) {
-        Ok(()) => Ok(how_it_went(rt, alloc, task, told)),
+        Ok(()) => Ok(Went {
+            drift: told.drift,
+            advice: how_it_went(rt, alloc, task, told),
+        }),
         Err(error) => Err(RunError::Tool(error)),
     }
 }

@@ -1,5 +1,5 @@
 //! The words of `run`.
-ghost use Rattle.std.specs.Prelude.{◌≡◌, ◌==◌, IfOk, IfSome, Some, codes, map, option_map, string_bytes};
+ghost use Rattle.std.specs.Prelude.{◌≡◌, ◌≤◌, ◌==◌, IfOk, IfSome, Some, codes, map, option_map, string_bytes};
 ghost use Rattle.std.specs.Prelude.{unwrap_or, []};
 ghost use Rattle.std.specs.Option.{option_map_or};
 ghost use Rattle.clap.specs.Words.{all_of, first_of};

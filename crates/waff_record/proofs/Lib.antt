@@ -7,6 +7,7 @@ mod Placing
 mod Ran
 mod Rows
 mod Sooner
+mod Steps
 mod Telling
 mod Unique
 mod Walking

@@ -1,6 +1,6 @@
 //! The rounding of the turns of a run, whose times are nanoseconds, to ticks.
 
-ghost use Rattle.std.specs.Prelude.{◌≡◌, ◌≤◌, ◌<◌, ◌+◌, ◌-◌, ◌/◌, max, length, map, slice_index};
+ghost use Rattle.std.specs.Prelude.{◌≡◌, ◌≤◌, ◌<◌, ◌+◌, ◌-◌, ◌/◌, max, length, map, replicate, slice_index};
 ghost use Rattle.std.specs.Prelude.{IfOk, IfSome, MatchOption};
 ghost use Rattle.waff_model.specs.Numbers.{IsAmongFirst};
 ghost use Rattle.waff_model.specs.Preorder.{AreNested};
@@ -44,7 +44,7 @@ pub fn rounded(alloc: Global, run: &RunTurns<'_>) -> Result<Plan, RecordError>
     let count = plan.len();
     let began = by_begin(alloc, run.turns)?;
     let mut table = Table::new(alloc, run.case.tree.len() as usize)?;
-    let mut free = vec![in alloc; 0; run.workers as usize]?;
+    let mut free = no_seats(alloc, run.workers)?;
     let spans = run.case.tree.spans();
     for place in 0..count {
         let m = number_at(&began, place);
@@ -78,6 +78,13 @@ fn starts_of(alloc: Global, turns: &[Turn]) -> Result<Vec<u64>, AllocError>
     ensures { IfOk result (λ starts. starts.items ≡ map (λ turn. turn.start) turns.now) }
 {
     turns.iter().map(|turn| turn.start).collect(alloc)
+}
+
+/// All workers are free from tick 0 on.
+fn no_seats(alloc: Global, workers: u32) -> Result<Vec<u64>, AllocError>
+    ensures { IfOk result (λ free. free.items ≡ replicate workers 0) }
+{
+    vec![in alloc; 0; workers as usize]
 }
 
 /// The number of the message at a place, from 0.
