@@ -9,7 +9,7 @@ use Rattle.waff_line.specs.declared.event.Event.TheVariants.{Tell, Begin, End}
 use Rattle.waff_line.specs.declared.turn.Turn.{Turn}
 use Rattle.waff_line.proofs.Turns.{turns_as_many}
 
-many_of : State → ℕ
+abbrev many_of : State → ℕ
 many_of s = length s.turns
 
 as_many_after : (course : Course) (s : State) (event : Event) (t : State) → Steps course s event t → many_of t ≡ many_of s

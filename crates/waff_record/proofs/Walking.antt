@@ -1,7 +1,8 @@
 -- The messages of a run in the order in which they began, each told after those before it.
 use Rattle.std.proofs.Common.{◌≡◌, ◌≢◌, ℕ, ◌+◌, ◌-◌, ◌/◌, ◌<◌, ◌≤◌, inl, inr, max, List, ◌∷◌, ◌++◌, length, Contains, Option, arith, refl, sym, ◌∙◌, ap, subst}
 use Rattle.std.proofs.lemmas.Bool.{cases_eq, cases_lt}
-use Rattle.waff_plan.specs.ByStart.{AreByStart, started_at}
+use Rattle.std.proofs.lemmas.List.{get_or_default}
+use Rattle.waff_plan.specs.ByStart.{AreByStart, started_at, started_of}
 use Rattle.waff_plan.specs.Table.{IsLatestExcluding}
 use Rattle.waff_plan.specs.Timetable.{Timetable, starts_in, with_turn, work_in}
 use Rattle.waff_plan.specs.Work.{Work, IsAmongFirst, IsNumber, finish_of, issue_of}
@@ -9,7 +10,6 @@ use Rattle.waff_plan.specs.declared.latest.Latest.{Latest}
 use Rattle.waff_plan.specs.declared.sequence.Started.{Started}
 use Rattle.waff_plan.proofs.ApartLaws.{number_here}
 use Rattle.waff_plan.proofs.Noted.{AreNoted}
-use Rattle.waff_plan.proofs.StartedLinks.{place_of_number, starts_sooner}
 use Rattle.waff_assign.specs.Order.{affinity_of}
 use Rattle.waff_line.specs.Machine.{Course}
 use Rattle.waff_line.specs.Turns.{AreRunTurns}
@@ -29,10 +29,20 @@ module _ (course : Course) (ticks : Work) (tick : ℕ) (turns : List Turn) (is :
   pub number_at : (p : ℕ) → p < length began → IsAmongFirst course.work.count (at_place p)
   number_at p within = number_here course.work key began are p within
 
+  abbrev nobody : Started
+  nobody = record { start = 0; number = 0 }
+
+  -- the place of a message
+  place_of : (m : ℕ) → IsAmongFirst course.work.count m → (p : ℕ) × (p < length began) × (at_place p ≡ m)
+  place_of m number =
+      let there = are.each m number in
+      (there.0, there.1, ap (λ (x : Started). x.number) (get_or_default began there.0 nobody (started_of key m) there.1 ∙ there.2))
+
   in_order : (p q : ℕ) → p ≤ q → q < length began → (turn_at turns (at_place p)).start ≤ (turn_at turns (at_place q)).start
   in_order p q no_later within =
-      let sooner = starts_sooner course.work key began are q p no_later within in
-      omega (arith, sooner, key_is (at_place p), key_is (at_place q))
+      let one = (are.only p nobody (omega (arith, no_later, within))).start_is in
+      let other = (are.only q nobody within).start_is in
+      omega (arith, are.rising p q no_later within, one, other, key_is (at_place p), key_is (at_place q))
 
   module _ (place : ℕ) (within : place < length began) (noted : List ℕ) (are_noted : AreNoted began (λ i. Unit {0}) place noted) where
     pub before_here : AreBefore course.work.count turns (at_place place) noted
@@ -45,7 +55,7 @@ module _ (course : Course) (ticks : Work) (tick : ℕ) (turns : List Turn) (is :
           let at = are_noted.each i there in
           subst (λ k. (turn_at turns k).start ≤ (turn_at turns (at_place place)).start) at.2 (in_order at.0 place (omega (arith, at.1)) within);
       all = λ i number sooner.
-          let there = place_of_number course.work key began are i number in
+          let there = place_of i number in
           elim (cases_lt there.0 place) [
             | inl early ↦ subst (Contains noted) there.2 (are_noted.all there.0 early tt)
             | inr late ↦
@@ -112,6 +122,6 @@ module _ (course : Course) (ticks : Work) (tick : ℕ) (turns : List Turn) (is :
   all_told work start place all costs count told = record {
     work_is = costs;
     told = λ n number.
-        let there = place_of_number course.work key began are n (record { from = number.from; to = omega (arith, number.to, count) }) in
+        let there = place_of n (record { from = number.from; to = omega (arith, number.to, count) }) in
         subst (IsTold course tick turns work start) there.2 (told there.0 (omega (arith, there.1, all)));
   }
