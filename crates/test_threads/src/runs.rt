@@ -1,6 +1,6 @@
 //! Runs on a store in memory.
 
-ghost use Rattle.std.specs.Prelude.{◌≡◌};
+ghost use Rattle.std.specs.Prelude.{◌≡◌, ◌≤◌};
 ghost use Rattle.waff_plan.specs.Bound.{IsWorkers};
 
 use std::alloc::Global;
@@ -83,7 +83,8 @@ four,1,0,x,0,swap s:4 s:0;read s:0-3
 ";
 
 fn settings<'a>(workers: u32) -> Settings<'a>
-    ensures { result.pace.workers ≡ workers }
+    ensures workers { result.pace.workers ≡ workers }
+    ensures tick { 1 ≤ result.pace.tick }
 {
     Settings {
         pace: Pace {

@@ -1,5 +1,5 @@
 -- How the program ends where it runs messages: the text of a run on the output, or a line that tells why there is none.
-use Rattle.std.specs.Prelude.{◌≡◌, ℕ, ◌⊎◌, false, List, [], ◌∷◌, ◌++◌, Option, codes, decimal, length, string_bytes}
+use Rattle.std.specs.Prelude.{◌≡◌, ℕ, ◌⊎◌, false, List, [], ◌∷◌, ◌++◌, Option, Some, None, codes, decimal, length, string_bytes}
 use Rattle.std.specs.Io.KnownBytes.{Appends, Keeps}
 use Rattle.waff_io.specs.Writing.{AppendsPart}
 use Rattle.waff_assign.specs.Instance.{Instance}
@@ -15,13 +15,20 @@ use Rattle.waff_cli.specs.declared.task.Task.TheVariants as task
 use Rattle.waff_answer.specs.Answers.{bytes_of, first, second}
 use Rattle.waff_answer.specs.Ends.{Advises, Ends}
 
--- the text tells a run of the messages of these files by k workers: it is that of a plan for k workers that obeys, for the same
--- messages with the costs that were measured, and this plan is what events of the machine of a run left
-pub record IsRunText (hierarchy_file trace_file : List ℕ) (k : ℕ) (text : List ℕ) : Type 0 where
+-- the text tells a run of the messages of these files by k workers, in ticks of so many nanoseconds: it is that of a plan for
+-- k workers, for the same messages with the costs that are told, and this plan is the rounding of what events of the machine
+-- of a run left; and by how many per cent it is longer than what was measured, where that is more than one
+pub record IsRunText (hierarchy_file trace_file : List ℕ) (k tick : ℕ) (text : List ℕ)
+    (drift : Option ℕ) : Type 0 where
   pub instance : Instance
   pub accepts : Accepts hierarchy_file trace_file instance
   pub measured : List ℕ
-  pub texts : TellRun hierarchy_file instance k measured text
+  pub texts : TellRun hierarchy_file instance k tick measured text drift
+
+-- the line that tells that what is told is longer than the run was
+abbrev pub drift_message : Option ℕ → List ℕ
+drift_message None = []
+drift_message (Some percent) = codes "waff: Drift " ++ decimal percent ++ 10 ∷ []
 
 -- the line that tells why there is no run
 abbrev pub run_message : RunError → List ℕ
@@ -53,38 +60,40 @@ RefusesRun hierarchy_file trace_file error =
     (instance : Instance) × Accepts hierarchy_file trace_file instance
     × IsOfRun (length instance.trace.messages) error
 
--- the text of a run was written to the output, and nothing but advice to the error stream
-pub record IsRun (hierarchy_file trace_file : List ℕ) (k : ℕ) (quiet : Type 0)
+-- the text of a run was written to the output, and to the error stream nothing but its drift, where it has one, and advice
+pub record IsRun (hierarchy_file trace_file : List ℕ) (k tick : ℕ) (quiet : Type 0)
     (out new_out err new_err : Option (List ℕ)) (failed : Type 0) (status : ℕ) : Type 0 where
   pub text : List ℕ
-  pub is_text : IsRunText hierarchy_file trace_file k text
+  pub drift : Option ℕ
+  pub is_text : IsRunText hierarchy_file trace_file k tick text drift
   pub written : Appends out new_out text
-  pub silent : Advises quiet err new_err failed []
+  pub told : Advises quiet err new_err failed (drift_message drift)
   pub status_is : status ≡ 0
 
 -- the output has nothing, or where it failed a part of the text of a run, from its front
-abbrev pub HasPart : List ℕ → List ℕ → ℕ → RunError → Option (List ℕ) → Option (List ℕ) → Type 0
-HasPart hierarchy_file trace_file k error out new_out =
+abbrev pub HasPart : List ℕ → List ℕ → ℕ → ℕ → RunError → Option (List ℕ) → Option (List ℕ) → Type 0
+HasPart hierarchy_file trace_file k tick error out new_out =
     Keeps out new_out
     ⊎ ((error ≡ run.Tool tool.Write)
-    × (text : List ℕ) × IsRunText hierarchy_file trace_file k text × AppendsPart out new_out text)
+    × (text : List ℕ) × (drift : Option ℕ)
+    × IsRunText hierarchy_file trace_file k tick text drift × AppendsPart out new_out text)
 
 -- the error stream has the line of an error that tells why there is no run, unless it failed, and the status is that of the
 -- error
-pub record IsNoRun (hierarchy_file trace_file : List ℕ) (k : ℕ) (quiet : Type 0)
+pub record IsNoRun (hierarchy_file trace_file : List ℕ) (k tick : ℕ) (quiet : Type 0)
     (out new_out err new_err : Option (List ℕ)) (failed : Type 0) (status : ℕ) : Type 0 where
   pub error : RunError
   pub refused : RefusesRun hierarchy_file trace_file error
-  pub part : HasPart hierarchy_file trace_file k error out new_out
+  pub part : HasPart hierarchy_file trace_file k tick error out new_out
   pub told : Advises quiet err new_err failed (run_message error)
   pub status_is : status ≡ run_status error
 
--- how the program ends where it runs the messages of these files by k workers
-abbrev pub EndsRun : List ℕ → List ℕ → ℕ → Type 0 → Option (List ℕ) → Option (List ℕ) → Option (List ℕ)
+-- how the program ends where it runs the messages of these files by k workers, with ticks of so many nanoseconds
+abbrev pub EndsRun : List ℕ → List ℕ → ℕ → ℕ → Type 0 → Option (List ℕ) → Option (List ℕ) → Option (List ℕ)
     → Option (List ℕ) → Type 0 → ℕ → Type 0
-EndsRun hierarchy_file trace_file k quiet out new_out err new_err failed status =
-    IsRun hierarchy_file trace_file k quiet out new_out err new_err failed status
-    ⊎ IsNoRun hierarchy_file trace_file k quiet out new_out err new_err failed status
+EndsRun hierarchy_file trace_file k tick quiet out new_out err new_err failed status =
+    IsRun hierarchy_file trace_file k tick quiet out new_out err new_err failed status
+    ⊎ IsNoRun hierarchy_file trace_file k tick quiet out new_out err new_err failed status
 
 -- how it ends with what it is to do: where somebody reads the error stream, a question has names of its files, and a run is
 -- loud
@@ -93,5 +102,5 @@ EndsTask (task.Question question) out new_out err new_err failed status =
     Ends question.asked (bytes_of question.files.items) (question.names.items ≡ [])
     out new_out err new_err failed status
 EndsTask (task.Run wanted) out new_out err new_err failed status =
-    EndsRun (first (bytes_of wanted.files.items)) (second (bytes_of wanted.files.items)) wanted.words.workers
-    (wanted.loud ≡ false) out new_out err new_err failed status
+    EndsRun (first (bytes_of wanted.files.items)) (second (bytes_of wanted.files.items))
+    wanted.words.workers wanted.words.tick (wanted.loud ≡ false) out new_out err new_err failed status

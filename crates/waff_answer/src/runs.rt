@@ -1,5 +1,5 @@
 //! The messages run on files, and what is told of that.
-ghost use Rattle.std.specs.Prelude.{◌≡◌, ℕ, ◌⊎◌, ◌++◌, [], false, List, IfErr, IfOk, OnOk, length, string_bytes};
+ghost use Rattle.std.specs.Prelude.{◌≡◌, ◌≤◌, ℕ, ◌⊎◌, Some, ◌++◌, [], false, List, IfErr, IfOk, OnOk, length, string_bytes};
 ghost use Rattle.std.specs.Io.KnownBytes.{Appends, Keeps};
 ghost use Rattle.waff_plan.specs.Bound.{IsWorkers};
 ghost use Rattle.waff_io.specs.Writing.{AppendsPart, Tells, WritesOrFails};
@@ -8,7 +8,8 @@ ghost use Rattle.waff_inputs.specs.declared.fault.ToolError.TheVariants as tool;
 ghost use Rattle.waff_run.specs.Faults.{IsOfRun};
 ghost use Rattle.waff_run.specs.Texts.{TellRun};
 ghost use Rattle.waff_answer.specs.Answers.{bytes_of, first, second};
-ghost use Rattle.waff_answer.specs.Runs.{EndsRun, HasPart, IsRunText, RefusesRun, run_message, run_status};
+ghost use Rattle.waff_answer.specs.Runs.{EndsRun, HasPart, IsRunText, RefusesRun, drift_message};
+ghost use Rattle.waff_answer.specs.Runs.{run_message, run_status};
 ghost use Rattle.waff_cli.specs.Advice.{advice_text};
 ghost use Rattle.waff_run.specs.declared.fault.RunError.TheVariants as run;
 
@@ -37,12 +38,12 @@ pub fn answer_run<
     E: ErrorStream,
 >(rt: &R, alloc: Global, task: &RunTask, out: &mut W, err: &mut E) -> u8
     ensures { EndsRun (first (bytes_of task.now.files.items)) (second (bytes_of task.now.files.items))
-        task.now.words.workers (task.now.loud ≡ false) (W.contents out.old) (W.contents out.new)
+        task.now.words.workers task.now.words.tick (task.now.loud ≡ false) (W.contents out.old) (W.contents out.new)
         (E.holds err.old) (E.holds err.new) (E.failed err.new) result }
 {
     match write_run(rt, alloc, task, out) {
-        Ok(advice) => {
-            say(advice.as_str(), err);
+        Ok(Went { drift, advice }) => {
+            tell_drift(alloc, drift, advice.as_str(), err);
             drop(advice);
             0
         }
@@ -54,6 +55,38 @@ pub fn answer_run<
             status
         }
     }
+}
+
+/// How a run went: what is told on the error stream.
+#[derive(Drop)]
+struct Went {
+    /// By how many per cent what is told is longer than what was measured, where that is more than one.
+    drift: Option<u128>,
+    advice: Advice,
+}
+
+/// Tells of a drift, where there is one, and then what helps.
+fn tell_drift<E: ErrorStream>(alloc: Global, drift: Option<u128>, advice: &str, err: &mut E)
+    ensures { Tells (E.holds err.old) (E.holds err.new) (E.failed err.new)
+        (drift_message drift ++ advice.now) }
+{
+    let Some(percent) = drift else {
+        say(advice, err);
+        return;
+    };
+    match write_drift(alloc, percent, err) {
+        Ok(()) => say(advice, err),
+        Err(_) => {}
+    }
+}
+
+/// Writes the line of a drift.
+fn write_drift<E: ErrorStream>(alloc: Global, percent: u128, err: &mut E) -> Result<(), WriteFault>
+    ensures { WritesOrFails (E.holds err.old) (E.holds err.new) (E.failed err.new)
+        (drift_message (Some percent)) result }
+{
+    let mut digits = Buffer::new();
+    write_pieces(alloc, err, &["waff: Drift ", digits.format(percent), "\n"])
 }
 
 /// An error as advice on it goes.
@@ -139,21 +172,22 @@ fn status_of(error: &RunError) -> u8
     }
 }
 
-/// Runs the messages, and writes both texts. Gives what is told at a terminal of how the run went.
+/// Runs the messages, and writes both texts. Gives what is told on the error stream of how the run went.
 fn write_run<R: Threads + Wait + Clock + Files + Opens + Eprint + Sync, W: Write>(
     rt: &R,
     alloc: Global,
     task: &RunTask,
     out: &mut W,
-) -> Result<Advice, RunError>
-    ensures quiet { IfOk result (λ advice. task.now.loud ≡ false → advice_text advice ≡ []) }
-    ensures written { OnOk result ((text : List ℕ)
+) -> Result<Went, RunError>
+    ensures quiet { IfOk result (λ went. task.now.loud ≡ false → advice_text went.advice ≡ []) }
+    ensures written { IfOk result (λ went. (text : List ℕ)
         × IsRunText (first (bytes_of task.now.files.items)) (second (bytes_of task.now.files.items))
-        task.now.words.workers text × Appends (W.contents out.old) (W.contents out.new) text) }
+        task.now.words.workers task.now.words.tick text went.drift
+        × Appends (W.contents out.old) (W.contents out.new) text) }
     ensures refused { IfErr result (RefusesRun (first (bytes_of task.now.files.items))
         (second (bytes_of task.now.files.items))) }
     ensures part { IfErr result (λ error. HasPart (first (bytes_of task.now.files.items))
-        (second (bytes_of task.now.files.items)) task.now.words.workers error
+        (second (bytes_of task.now.files.items)) task.now.words.workers task.now.words.tick error
         (W.contents out.old) (W.contents out.new)) }
 {
     match ran(rt, alloc, task) {
@@ -174,8 +208,9 @@ fn write_texts<R: Threads + Files + Sync, W: Write>(
     told: &Recorded,
     part: Option<Part>,
     out: &mut W,
-) -> Result<Advice, RunError>
-    ensures quiet { IfOk result (λ advice. task.now.loud ≡ false → advice_text advice ≡ []) }
+) -> Result<Went, RunError>
+    ensures quiet { IfOk result (λ went. task.now.loud ≡ false → advice_text went.advice ≡ []) }
+    ensures drift { IfOk result (λ went. went.drift ≡ told.now.drift) }
     ensures written { OnOk result
         (Appends (W.contents out.old) (W.contents out.new) (string_bytes told.now.text)) }
     ensures fault { IfErr result (λ error. error ≡ run.Tool tool.Write) }
@@ -187,7 +222,10 @@ fn write_texts<R: Threads + Files + Sync, W: Write>(
         Err(error) => return Err(error),
     }
     match write_text(out, told.text.as_bytes()) {
-        Ok(()) => Ok(how_it_went(rt, alloc, task, told)),
+        Ok(()) => Ok(Went {
+            drift: told.drift,
+            advice: how_it_went(rt, alloc, task, told),
+        }),
         Err(error) => Err(RunError::Tool(error)),
     }
 }
@@ -206,7 +244,8 @@ fn ran<R: Threads + Wait + Clock + Files + Opens + Eprint + Sync>(
     task: &RunTask,
 ) -> Result<RanOnFiles, RunError>
     ensures told { IfOk result (λ ran. IsRunText (first (bytes_of task.now.files.items))
-        (second (bytes_of task.now.files.items)) task.now.words.workers (string_bytes ran.told.text)) }
+        (second (bytes_of task.now.files.items)) task.now.words.workers task.now.words.tick
+        (string_bytes ran.told.text) ran.told.drift) }
     ensures refused { IfErr result (RefusesRun (first (bytes_of task.now.files.items))
         (second (bytes_of task.now.files.items))) }
 {
@@ -233,7 +272,8 @@ fn ran_on_files<R: Threads + Wait + Clock + Files + Opens + Eprint + Sync>(
 ) -> Result<RanOnFiles, RunError>
     ensures told { IfOk result (λ ran. TellRun hierarchy.now
         (instance_under accepted.now.layout accepted.now.assigned accepted.now.trace)
-        task.now.words.workers (string_bytes ran.told.measured) (string_bytes ran.told.text)) }
+        task.now.words.workers task.now.words.tick (string_bytes ran.told.measured)
+        (string_bytes ran.told.text) ran.told.drift) }
     ensures refused { IfErr result (IsOfRun (length accepted.now.trace.messages)) }
 {
     let words = &task.words;
@@ -274,6 +314,8 @@ fn site_of<'a>(task: &'a RunTask) -> Site<'a> {
 fn settings_of<'a>(task: &'a RunTask) -> Settings<'a>
     ensures workers { result.pace.workers ≡ task.now.words.workers }
     ensures within { IsWorkers result.pace.workers }
+    ensures tick { result.pace.tick ≡ task.now.words.tick }
+    ensures lasting { 1 ≤ result.pace.tick }
 {
     let words = &task.words;
     Settings {
@@ -301,7 +343,8 @@ fn write_measured<R: Files>(rt: &R, part: Option<Part>, told: &Recorded) -> Resu
     }
 }
 
-/// At a terminal: how long the run was, how long the plan for its costs is, and how late messages began.
+/// At a terminal: what helps against a drift, how long the run was, how long the plan for its costs is, and how late messages
+/// began.
 fn how_it_went<R: Threads + Sync>(rt: &R, alloc: Global, task: &RunTask, ran: &Recorded) -> Advice
     ensures { task.now.loud ≡ false → advice_text result ≡ [] }
 {
@@ -314,10 +357,16 @@ fn how_it_went<R: Threads + Sync>(rt: &R, alloc: Global, task: &RunTask, ran: &R
     let Ok(planned) = planned_length(rt, alloc, hierarchy, measured, workers) else {
         return Advice::Nothing;
     };
-    let (length, late) = (ran.tally.length, ran.tally.late);
-    match format!(in alloc;
-        "\rwaff: ran {length} ticks, planned {planned}, messages began {late} ticks late (median)\n"
-    ) {
+    let (length, late, short) = (ran.tally.length, ran.tally.late, ran.tally.short);
+    let text = match ran.drift {
+        Some(_) => format!(in alloc;
+            "{short} messages were shorter than a tick; a trace that is made with a smaller tick tells how long they were\n\rwaff: ran {length} ticks, planned {planned}, messages began {late} ns late (median)\n"
+        ),
+        None => format!(in alloc;
+            "\rwaff: ran {length} ticks, planned {planned}, messages began {late} ns late (median)\n"
+        ),
+    };
+    match text {
         Ok(text) => Advice::Text(text),
         Err(_) => Advice::Nothing,
     }

@@ -1,5 +1,5 @@
 //! The words of `run`.
-ghost use Rattle.std.specs.Prelude.{◌≡◌, ◌==◌, IfOk, IfSome, Some, codes, map, option_map, string_bytes};
+ghost use Rattle.std.specs.Prelude.{◌≡◌, ◌≤◌, ◌==◌, IfOk, IfSome, Some, codes, map, option_map, string_bytes};
 ghost use Rattle.std.specs.Prelude.{unwrap_or, []};
 ghost use Rattle.std.specs.Option.{option_map_or};
 ghost use Rattle.clap.specs.Words.{all_of, first_of};
@@ -24,7 +24,7 @@ pub struct RunWords {
     /// Bytes of a cell.
     pub cell: u32,
     /// Nanoseconds of a tick.
-    pub tick: u64,
+    pub tick: u32,
     /// Whether files that no run has made are written over.
     pub over: bool,
     /// Whether each cell that the trace names is read and written back first.
@@ -33,6 +33,7 @@ pub struct RunWords {
     pub sync_writes: bool,
     /// The names of messages at whose end the files of their cells are synced.
     pub syncs: Vec<String>,
+    pub ghost lasting: { 1 ≤ tick },
 }
 
 /// The bytes of a cell where they are not given.
@@ -42,7 +43,7 @@ pub const CELL: u32 = 4_096;
 pub(crate) const MAX_CELL: u32 = 1_048_576;
 
 /// The nanoseconds of a tick where they are not given.
-pub const TICK: u64 = 1_000;
+pub const TICK: u32 = 1_000;
 
 /// The words of `run` for this many workers.
 pub fn run_words(
@@ -107,9 +108,10 @@ fn cell_of(rt: &impl Eprint, found: &ArgMatches<'_>) -> Result<u32, Refusal>
 }
 
 /// The nanoseconds of a tick.
-fn tick_in_words(rt: &impl Eprint, found: &ArgMatches<'_>) -> Result<u64, Refusal>
-    ensures { IfOk result (λ tick. tick
+fn tick_in_words(rt: &impl Eprint, found: &ArgMatches<'_>) -> Result<u32, Refusal>
+    ensures tick { IfOk result (λ tick. tick
         ≡ option_map_or tick_of (first_of (codes "tick") (rows_in found.now)) TICK) }
+    ensures lasting { IfOk result (λ tick. 1 ≤ tick) }
 {
     match word_in(found, "tick") {
         Some(word) => match nanoseconds(word) {
@@ -148,15 +150,16 @@ fn copies_of(alloc: Global, words: &[&str]) -> Result<Vec<String>, AllocError>
 }
 
 /// The nanoseconds of a number of microseconds, with at most three digits behind the point.
-fn nanoseconds(word: &str) -> Option<u64>
-    ensures { IfSome result (λ nanos. nanos ≡ tick_of word.now) }
+fn nanoseconds(word: &str) -> Option<u32>
+    ensures tick { IfSome result (λ nanos. nanos ≡ tick_of word.now) }
+    ensures lasting { IfSome result (λ nanos. 1 ≤ nanos) }
 {
     let nanos = match word.split_once('.') {
         Some((whole, part)) => nanoseconds_of(whole, part)?,
         None => nanoseconds_of(word, "0")?,
     };
     if nanos >= 1 && nanos <= 1_000_000_000 {
-        Some(nanos)
+        Some(nanos as u32)
     } else {
         None
     }

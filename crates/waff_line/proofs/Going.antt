@@ -7,13 +7,14 @@ use Rattle.waff_assign.specs.Order.{affinity_of}
 use Rattle.waff_order.specs.Joined.{Joined, HaveJoined}
 use Rattle.waff_plan.specs.Timing.{work_of}
 use Rattle.waff_plan.specs.declared.timing.Timing.{Timing}
-use Rattle.waff_line.specs.Lined.{course_in, IsFollowedBy, LineValue}
-use Rattle.waff_line.specs.Machine.{Course, State, IsRunning, MayBegin, Reaches, Steps, begun_on, ended_at, finish_at, no_turn, opening, told}
-use Rattle.waff_line.specs.Queued.{IsQueue, course_of, value_of}
-use Rattle.waff_line.specs.declared.event.Event.{Event}
+use Rattle.waff_line.specs.Lined.{IsFollowedBy}
+use Rattle.waff_line.specs.Machine.{Course, State, IsRunning, MayBegin, Reaches, begun_on, ended_at, finish_at, no_turn, opening, told}
+use Rattle.waff_line.specs.Queued.{IsQueue, course_of}
+use Rattle.waff_line.specs.Scaled.{scaled}
 use Rattle.waff_line.specs.declared.event.Event.TheVariants.{Begin, End, Tell}
 use Rattle.waff_line.specs.declared.queue.Queue.{Queue}
-use Rattle.waff_line.proofs.Keeping.{course_same, is_course, lined_ended, queue_begun, queue_told, reaches_more, running_number, value_same}
+use Rattle.waff_line.proofs.Keeping.{course_same, is_course, lined_ended, queue_begun, queue_told, reaches_more, running_number}
+use Rattle.waff_line.proofs.Scaling.{follower_scaled}
 use Rattle.waff_line.proofs.Sound.{sound_reached}
 
 -- the invariant of a line
@@ -35,54 +36,33 @@ module _ (q : Queue) (n : State × ℕ) (h : Stands q n) where
         reaches_more (course_of q n.1) n.0 (Begin x m) (begun_on n.0 x m) h.1 (may, refl),
       )
 
-  pub stands_ended : (other : Queue) → other.case ≡ q.case → other.timings.items ≡ q.timings.items → (m now : ℕ) → IsRunning n.0 m
+  pub stands_ended : (other : Queue) → other.case ≡ q.case → other.timings.items ≡ q.timings.items → other.tick ≡ q.tick → (m now : ℕ) → IsRunning n.0 m
       → (v : State × ℕ) → ◌≡◌ {A = State × ℕ} v (ended_at n.0 m now, n.1) → IsQueue other v.1 v.0 → Stands other v
-  stands_ended other case timings m now running v is queue = (
+  stands_ended other case timings tick m now running v is queue = (
     queue,
     subst (λ (p : State × ℕ). Reaches (course_of other p.1) p.0) (sym is)
-        (subst (λ (c : Course). Reaches c (ended_at n.0 m now)) (sym (course_same q other n.1 case timings))
+        (subst (λ (c : Course). Reaches c (ended_at n.0 m now)) (sym (course_same q other n.1 case timings tick))
         (reaches_more (course_of q n.1) n.0 (End m now) (ended_at n.0 m now) h.1 (running, refl))),
   )
-
-  pub stands_joined : (other : Queue) → other.case ≡ q.case → other.timings.items ≡ q.timings.items → IsQueue other n.1 n.0 → Stands other n
-  stands_joined other case timings queue =
-      (queue, subst (λ (c : Course). Reaches c n.0) (sym (course_same q other n.1 case timings)) h.1)
-
--- what is seen of it
-module _ (q other : Queue) (n : State × ℕ) (old : LineValue) (view : value_of q n ≡ old) (case : other.case ≡ q.case)
-    (timings : other.timings.items ≡ q.timings.items) where
-  pub seen_same : value_of other n ≡ old
-  seen_same = value_same q other n case timings ∙ view
-
-  -- with another state
-  module _ (t : State) (v : State × ℕ) (is : ◌≡◌ {A = State × ℕ} v (t, n.1)) where
-    pub seen_course : course_in (value_of other v) ≡ course_in old
-    seen_course =
-        ap (λ (p : State × ℕ). course_of other p.1) is ∙ course_same q other n.1 case timings ∙ ap (λ (l : LineValue). course_in l) view
-
-    pub seen_step : (event : Event) → Steps (course_of q n.1) n.0 event t → Steps (course_in old) old.state event v.0
-    seen_step event step =
-        subst (λ (p : State × ℕ). Steps (course_in old) old.state event p.0) (sym is)
-        (subst (λ (l : LineValue). Steps (course_in l) l.state event t) view step)
 
 -- the queue when a message has ended
 pub queue_ended : (q : Queue) (n : State × ℕ) → IsQueue q n.1 n.0 → 1 ≤ n.1 → Reaches (course_of q n.1) n.0
     → (m now : ℕ) → IsRunning n.0 m → (timings : List Timing) (nexts : List ℕ) (finish : ℕ) (due : List (ℕ × ℕ))
     → timings ≡ q.timings.items → nexts ≡ q.nexts.items → finish ≡ finish_at n.0 m now
-    → IsFollowedBy (work_of timings) finish (get_or nexts (m - 1) 0) q.due due
+    → IsFollowedBy (scaled q.tick (work_of timings)) finish (get_or nexts (m - 1) 0) q.due due
     → (v : State × ℕ) → ◌≡◌ {A = State × ℕ} v (ended_at n.0 m now, n.1)
-    → IsQueue (record { case = q.case; timings = q.timings; nexts = q.nexts; order = q.order; due = due; is_over = q.is_over }) v.1 v.0
+    → IsQueue (record { case = q.case; timings = q.timings; tick = q.tick; nexts = q.nexts; order = q.order; due = due; is_over = q.is_over }) v.1 v.0
 queue_ended q n h staffed reached m now running timings nexts finish due timings_is nexts_is finish_is followed v is =
     let course = course_of q n.1 in
     let right = is_course q n.1 n.0 h staffed in
     let sound = sound_reached course right n.0 reached in
     let number = running_number q n.1 n.0 h staffed reached m running in
     let next = get_or q.nexts.items (m - 1) 0 in
-    let follows : IsFollowedBy (work_of q.timings.items) (finish_at n.0 m now) next q.due due
-    = subst (λ (ts : List Timing). IsFollowedBy (work_of ts) (finish_at n.0 m now) next q.due due) timings_is
-    (subst (λ (ns : List ℕ). IsFollowedBy (work_of timings) (finish_at n.0 m now) (get_or ns (m - 1) 0) q.due due) nexts_is
-    (subst (λ (f : ℕ). IsFollowedBy (work_of timings) f (get_or nexts (m - 1) 0) q.due due) finish_is followed)) in
-    let after : Queue = record { case = q.case; timings = q.timings; nexts = q.nexts; order = q.order; due = due; is_over = q.is_over } in
+    let follows : IsFollowedBy (scaled q.tick (work_of q.timings.items)) (finish_at n.0 m now) next q.due due
+    = subst (λ (ts : List Timing). IsFollowedBy (scaled q.tick (work_of ts)) (finish_at n.0 m now) next q.due due) timings_is
+    (subst (λ (ns : List ℕ). IsFollowedBy (scaled q.tick (work_of timings)) (finish_at n.0 m now) (get_or ns (m - 1) 0) q.due due) nexts_is
+    (subst (λ (f : ℕ). IsFollowedBy (scaled q.tick (work_of timings)) f (get_or nexts (m - 1) 0) q.due due) finish_is followed)) in
+    let after : Queue = record { case = q.case; timings = q.timings; tick = q.tick; nexts = q.nexts; order = q.order; due = due; is_over = q.is_over } in
     subst (λ (p : State × ℕ). IsQueue after p.1 p.0) (sym is) (record {
       many = h.many;
       timings = h.timings;
@@ -90,7 +70,7 @@ queue_ended q n h staffed reached m now running timings nexts finish due timings
       next_count = h.next_count;
       lined = λ going.
           lined_ended course n.0 right m now sound running q.order.spans.now q.order.joining q.order.messages.items next q.due due
-          (h.nexts m number) follows (h.lined going);
+          (follower_scaled q.tick (work_of q.timings.items) (length q.timings.items) m next (h.nexts m number)) follows (h.lined going);
     })
 
 -- the order of a case by number

@@ -1,5 +1,5 @@
 -- What the code does with a queue keeps it.
-use Rattle.std.proofs.Common.{◌≡◌, ◌≢◌, ℕ, ◌+◌, ◌-◌, ◌<◌, ◌≤◌, ◌⊎◌, inl, inr, false, true, List, [], ◌∷◌, ◌++◌, length, map, Contains, Option, Some, None, refl, ap, sym, ◌∙◌, subst, arith}
+use Rattle.std.proofs.Common.{◌≡◌, ◌≢◌, ℕ, ◌+◌, ◌-◌, ◌<◌, ◌≤◌, inl, inr, false, true, List, [], ◌∷◌, ◌++◌, length, map, Contains, refl, ap, sym, ◌∙◌, subst, arith}
 use Rattle.std.specs.List.{range_with_len}
 use Rattle.std.proofs.lemmas.Bool.{false≢true}
 use Rattle.std.proofs.lemmas.List.{length-map, map-id}
@@ -16,17 +16,19 @@ use Rattle.waff_order.specs.Joined.{Joined, HaveJoined}
 use Rattle.waff_order.specs.Needs.{IsNeed}
 use Rattle.waff_plan.specs.Due.{LeavesDue}
 use Rattle.waff_plan.specs.Obeys.{FollowsNone}
-use Rattle.waff_plan.specs.Pending.{AreFirst, IsFollower}
-use Rattle.waff_plan.specs.Work.{IsAmongFirst, issue_of}
+use Rattle.waff_plan.specs.Pending.{IsFollower}
+use Rattle.waff_plan.specs.Timing.{work_of}
+use Rattle.waff_plan.specs.Work.{IsAmongFirst}
 use Rattle.waff_plan.specs.declared.timing.Timing.{Timing}
-use Rattle.waff_line.specs.Lined.{course_in, IsFollowedBy, IsLined, first_joined, latecomers, served_at}
+use Rattle.waff_line.specs.Lined.{course_in, AreFirstDue, IsFollowedBy, IsLined, first_joined, latecomers, served_at}
 use Rattle.waff_line.specs.Machine.{Course, IsCourse, State, HasEnded, IsRunning, MayBegin, Reaches, Runs, Steps, begun_on, ended_at, finish_at, issue_in, measured, opening, start_in, told}
 use Rattle.waff_line.specs.Noted.{CanBegin}
 use Rattle.waff_line.specs.declared.event.Event.{Event}
-use Rattle.waff_line.specs.Queued.{IsQueue, course_of, value_by, value_of}
+use Rattle.waff_line.specs.Queued.{IsQueue, course_of, value_by}
 use Rattle.waff_line.specs.declared.queue.Queue.{Queue}
 use Rattle.waff_line.proofs.Lining.{clear_at, contains_first, lined_more}
 use Rattle.waff_line.proofs.Queueing.{by_version, comes_by, issue_alone, key_by_issue, latecomers_all, latecomers_none, lined_begun, lined_ended_by_issue, lined_ended_by_number, lined_opening_by_issue, lined_opening_by_number, lined_told}
+use Rattle.waff_line.proofs.Scaling.{earlier_scaled}
 use Rattle.waff_line.proofs.Sound.{Sound, sound_reached}
 use Rattle.waff_line.proofs.Turns.{begun_number}
 
@@ -50,7 +52,7 @@ first_by_number V3 count other = absurd (other refl)
 pub lined_opening : (course : Course) (spans : List Span) (joining : Joined) (messages : List ℕ) (due : List (ℕ × ℕ))
     → (course.version ≢ V3 → FollowsNone course.work) → course.work.count ≡ length course.assigned
     → messages ≡ first_joined course.version (length course.assigned)
-    → HaveJoined course.tree spans (map (affinity_of course.assigned) messages) joining → AreFirst course.work (issue_of course.work) due
+    → HaveJoined course.tree spans (map (affinity_of course.assigned) messages) joining → AreFirstDue course.work course.work.count due
     → IsLined course (opening course) spans joining messages (latecomers course.version due)
 lined_opening course spans joining messages due alone many are have first = elim (by_version course.version) [
   | inl third ↦
@@ -97,7 +99,7 @@ reaches_more course s event t (events, runs) step = (events ++ event ∷ [], run
 
 module _ (q : Queue) (workers : ℕ) (s : State) (h : IsQueue q workers s) where
   pub is_course : 1 ≤ workers → IsCourse (course_of q workers)
-  is_course staffed = record { earlier = h.timings.earlier; alone = h.timings.alone; many = h.many; staffed = staffed }
+  is_course staffed = record { earlier = earlier_scaled q.tick (work_of q.timings.items) h.timings.earlier; alone = h.timings.alone; many = h.many; staffed = staffed }
 
   pub queue_told : (now : ℕ) → IsQueue q workers (told s now)
   queue_told now = record {
@@ -193,15 +195,13 @@ module _ (q : Queue) (workers : ℕ) (s : State) (h : IsQueue q workers s) where
           subst (λ ws. IsLined course s q.order.spans.now after (messages ++ r.1 ∷ []) ws) (sym (latecomers_all q.case.trace.now.version rest third))
           (lined_more course s q.order.spans.now q.order.joining messages q.due line_due r rest leaves passed after have)
 
--- what is seen of a line goes by its parts
-pub value_same : (q other : Queue) (n : State × ℕ) → other.case ≡ q.case → other.timings.items ≡ q.timings.items → value_of other n ≡ value_of q n
-value_same q other n case timings =
-    ap (λ (c : Case). value_by c other.timings.items n) case ∙ ap (λ (ts : List Timing). value_by q.case ts n) timings
-
-pub course_same : (q other : Queue) (workers : ℕ) → other.case ≡ q.case → other.timings.items ≡ q.timings.items → course_of other workers ≡ course_of q workers
-course_same q other workers case timings =
-    ap (λ (c : Case). course_in (value_by c other.timings.items (fresh, workers))) case
-    ∙ ap (λ (ts : List Timing). course_in (value_by q.case ts (fresh, workers))) timings
+-- what a queue is of goes by its parts
+pub course_same : (q other : Queue) (workers : ℕ) → other.case ≡ q.case → other.timings.items ≡ q.timings.items → other.tick ≡ q.tick
+    → course_of other workers ≡ course_of q workers
+course_same q other workers case timings tick =
+    ap (λ (c : Case). course_in (value_by c other.timings.items other.tick (fresh, workers))) case
+    ∙ ap (λ (ts : List Timing). course_in (value_by q.case ts other.tick (fresh, workers))) timings
+    ∙ ap (λ (t : ℕ). course_in (value_by q.case q.timings.items t (fresh, workers))) tick
   where
     fresh : State
     fresh = record { clock = 0; turns = [] }

@@ -1,9 +1,11 @@
 pub mod Turns
 pub mod Issuing
 pub mod Sound
+pub mod Scaling
 mod Obeying
 mod Lining
 mod Noting
+mod FirstDue
 mod Queueing
 mod Keeping
 mod Going

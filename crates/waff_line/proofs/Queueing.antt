@@ -1,10 +1,9 @@
 -- The queue goes on with the state of the machine.
-use Rattle.std.proofs.Common.{◌≡◌, ◌≢◌, ℕ, zero, suc, ◌+◌, ◌-◌, ◌<◌, ◌≤◌, ◌⊎◌, inl, inr, max, false, List, [], ◌∷◌, length, map, get_or, Contains, Option, Some, None, option_map, refl, ap, sym, ◌∙◌, subst, arith}
+use Rattle.std.proofs.Common.{◌≡◌, ◌≢◌, ℕ, ◌+◌, ◌-◌, ◌<◌, ◌≤◌, ◌⊎◌, inl, inr, max, List, [], ◌∷◌, length, map, get_or, Contains, Option, Some, None, option_map, refl, ap, sym, ◌∙◌, subst, arith}
 use Rattle.std.specs.List.{range_with_len}
 use Rattle.std.proofs.lemmas.Bool.{cases_lt, false≢true}
 use Rattle.std.proofs.lemmas.Option.{none-some, same_Some}
 use Rattle.std.proofs.lemmas.List.FromFn.{get_or-range_with_len, length-range_with_len}
-use Rattle.std.proofs.lemmas.List.Elements.{Contains-get_or}
 use Rattle.std.proofs.lemmas.List.Sorted.{Contains-permutation, IsPermutation-sym}
 use Rattle.waff_model.specs.Versions.{has_clients}
 use Rattle.waff_model.specs.declared.message.Version.{Version}
@@ -13,13 +12,12 @@ use Rattle.waff_model.specs.declared.preorder.Span.{Span}
 use Rattle.waff_assign.specs.Order.{affinity_of}
 use Rattle.waff_order.specs.Joined.{Joined, HaveJoined}
 use Rattle.waff_plan.specs.Due.{IsDueFirst}
-use Rattle.waff_plan.specs.Obeys.{FollowsEarlier, FollowsNone}
+use Rattle.waff_plan.specs.Obeys.{FollowsNone}
 use Rattle.waff_plan.specs.Order.{ComesBefore, key_of}
-use Rattle.waff_plan.specs.Pending.{AreFirst, IsFollower}
-use Rattle.waff_plan.specs.Work.{Work, IsAmongFirst, finish_of, issue_after, issue_of}
-use Rattle.waff_line.specs.Lined.{IsFollowedBy, IsKeyed, IsLined, first_joined, latecomers}
-use Rattle.waff_line.specs.Machine.{Course, IsCourse, State, Turn, HasCome, HasEnded, IsIssued, IsRunning, MayBegin, begun_on, ended_at, finish_at, issue_in, key_in, measured, opening, start_in, told, turn_of}
-use Rattle.waff_line.proofs.Issuing.{key_kept}
+use Rattle.waff_plan.specs.Pending.{IsFollower}
+use Rattle.waff_plan.specs.Work.{Work, finish_of, issue_after, issue_of}
+use Rattle.waff_line.specs.Lined.{AreFirstDue, IsFollowedBy, IsKeyed, IsLined, latecomers}
+use Rattle.waff_line.specs.Machine.{Course, IsCourse, State, Turn, HasCome, HasEnded, IsIssued, IsRunning, MayBegin, begun_on, ended_at, finish_at, issue_in, key_in, measured, opening, start_in, told}
 use Rattle.waff_line.proofs.Lining.{contains_first, contains_more, contains_rest_of, lined_still}
 use Rattle.waff_line.proofs.Sound.{Sound, begun_same, ended_other, ended_same, ended_self, issued_before, none_issued}
 use Rattle.waff_line.proofs.Turns.{none_ended}
@@ -155,7 +153,7 @@ module _ (course : Course) (spans : List Span) (joining : Joined) where
   follows_none : (i : ℕ) → IsIssued course (opening course) i → course.work.follows i ≡ None
   follows_none i issued = alone (course.work.follows i) (λ f follow. none_ended course f (issued f follow))
 
-  pub lined_opening_by_issue : course.version ≡ V3 → (due : List (ℕ × ℕ)) → AreFirst course.work (issue_of course.work) due
+  pub lined_opening_by_issue : course.version ≡ V3 → (due : List (ℕ × ℕ)) → AreFirstDue course.work course.work.count due
       → HaveJoined course.tree spans [] joining → IsLined course (opening course) spans joining [] due
   lined_opening_by_issue version due first have = record {
     joined = have;
@@ -163,9 +161,8 @@ module _ (course : Course) (spans : List Span) (joining : Joined) where
     known = λ i number issued.
         let none = follows_none i issued in
         inr (subst (λ k. Contains due (k, i))
-        (issue_alone course.work (start_in (opening course)) i none
-        ∙ sym (key_by_issue course (opening course) i version ∙ issue_alone (measured course (opening course)) (start_in (opening course)) i none))
-        (first.all (start_in (opening course)) i number none));
+        (sym (key_by_issue course (opening course) i version ∙ issue_alone (measured course (opening course)) (start_in (opening course)) i none))
+        (first.all i number none));
     sorted = λ p q less within before. omega (arith, within);
     later = λ i r joins waiting. let within = joins.1 in absurd (omega (arith, within));
     come = λ is i joins. let within = joins.1 in absurd (omega (arith, within));
@@ -175,9 +172,7 @@ module _ (course : Course) (spans : List Span) (joining : Joined) where
           number = first.number r inside;
           issued = λ f follow. absurd (none-some f (sym none ∙ follow));
           key = key_by_issue course (opening course) r.1 version
-              ∙ issue_alone (measured course (opening course)) (start_in (opening course)) r.1 none
-              ∙ sym (issue_alone course.work (start_in (opening course)) r.1 none)
-              ∙ sym (first.key_is (start_in (opening course)) r inside);
+              ∙ issue_alone (measured course (opening course)) (start_in (opening course)) r.1 none ∙ sym (first.floor r inside);
         };
   }
 

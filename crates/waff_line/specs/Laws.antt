@@ -27,12 +27,12 @@ RunObeys course =
     (s : State) → Reaches course s → AreAllEnded course s
     → Obeys (order_in course s) (measured course s) (start_in s)
 
--- and each message has run for a tick at least
+-- and each message has run for a nanosecond at least
 abbrev pub EachHasRun : Course → Type 0
 EachHasRun course =
     (s : State) → Reaches course s → AreAllEnded course s → EachRuns (measured course s)
 
--- and it is a plan for the workers of the course: at each tick no more messages run than there are workers
+-- and it is a plan for the workers of the course: at no time more messages run than there are workers
 abbrev pub RunIsWorkerPlan : Course → Type 0
 RunIsWorkerPlan course =
     (s : State) → Reaches course s → AreAllEnded course s

@@ -3,4 +3,5 @@ pub mod Laws
 pub mod Lined
 pub mod Noted
 pub mod Queued
+pub mod Scaled
 pub mod Turns

@@ -1,5 +1,5 @@
 -- The line of a run: what it is of and its state, and how the order in which messages are served is kept.
-use Rattle.std.specs.Prelude.{◌≡◌, ℕ, ◌-◌, ◌<◌, ◌≤◌, ◌⊎◌, List, [], map, length, Contains}
+use Rattle.std.specs.Prelude.{◌≡◌, ℕ, ◌-◌, ◌<◌, ◌⊎◌, List, [], None, map, length, Contains}
 use Rattle.std.specs.Prelude.{◌≢◌, ◌+◌, ◌∷◌, max, slice_index, IsPermutation}
 use Rattle.std.specs.List.{range_with_len}
 use Rattle.waff_model.specs.Tree.{Node}
@@ -14,13 +14,16 @@ use Rattle.waff_plan.specs.Timing.{work_of}
 use Rattle.waff_plan.specs.Work.{Work, IsAmongFirst}
 use Rattle.waff_plan.specs.declared.timing.Timing.{Timing}
 use Rattle.waff_line.specs.Machine.{Course, State, IsIssued, key_in}
+use Rattle.waff_line.specs.Scaled.{scaled}
 
--- a line: what it is of, with the timings of the messages for the work, and the state of the machine that it is
+-- a line: what it is of, with the timings of the messages in ticks and the nanoseconds of a tick for the work, and the
+-- state of the machine that it is
 pub record LineValue : Type 0 where
   pub version : Version
   pub tree : List Node
   pub assigned : List ℕ
   pub timings : List Timing
+  pub tick : ℕ
   pub workers : ℕ
   pub state : State
 
@@ -30,7 +33,7 @@ course_in line = record {
   version = line.version;
   tree = line.tree;
   assigned = line.assigned;
-  work = work_of line.timings;
+  work = scaled line.tick (work_of line.timings);
   workers = line.workers;
 }
 
@@ -72,7 +75,14 @@ first_joined V1 count = range_with_len 1 count
 first_joined V2 count = range_with_len 1 count
 first_joined V3 count = []
 
--- where message next, 0 for none, follows one that has finished at this tick, it is due at its issue
+-- of the first n messages those that follow none are due at their floors, and no others
+pub record AreFirstDue (work : Work) (n : ℕ) (due : List (ℕ × ℕ)) : Type 0 where
+  pub number : (r : ℕ × ℕ) → Contains due r → IsAmongFirst n r.1
+  pub floor : (r : ℕ × ℕ) → Contains due r → r.0 ≡ work.floor r.1
+  pub alone : (r : ℕ × ℕ) → Contains due r → work.follows r.1 ≡ None
+  pub all : (m : ℕ) → IsAmongFirst n m → work.follows m ≡ None → Contains due (work.floor m, m)
+
+-- where message next, 0 for none, follows one that has finished at this time, it is due at its issue
 pub record IsFollowedBy (work : Work) (finish next : ℕ) (old new : List (ℕ × ℕ)) : Type 0 where
   pub none : next ≡ 0 → new ≡ old
   pub one : next ≢ 0

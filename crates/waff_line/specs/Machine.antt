@@ -1,5 +1,5 @@
 -- The machine of a run: it is told the time, messages begin on workers, and they end. Which of them have
--- been issued, and in which order, follows from what it has noted.
+-- been issued, and in which order, follows from what it has noted. Times are nanoseconds from the beginning of the run.
 use Rattle.std.specs.Prelude.{◌≡◌, ◌≢◌, ℕ, zero, suc, ◌+◌, ◌-◌, ◌<◌, ◌≤◌, max, Bool, true, false}
 use Rattle.std.specs.Prelude.{List, [], ◌∷◌, length, Some, replicate, slice_index_or, slice_set}
 use Rattle.waff_model.specs.Tree.{Node}
@@ -11,8 +11,8 @@ use Rattle.waff_plan.specs.Work.{Work, IsAmongFirst, issue_of}
 use Rattle.waff_line.specs.declared.event.Event.{Event}
 use Rattle.waff_line.specs.declared.event.Event.TheVariants.{Tell, Begin, End}
 
--- what a run is of: the version of its trace, the tree and the affinities of the messages in it, the work,
--- whose costs count for nothing, and how many workers there are
+-- what a run is of: the version of its trace, the tree and the affinities of the messages in it, the work in
+-- nanoseconds, whose costs count for nothing, and how many workers there are
 pub record Course : Type 0 where
   pub version : Version
   pub tree : List Node
@@ -28,8 +28,8 @@ pub record IsCourse (course : Course) : Type 0 where
   pub many : course.work.count ≡ length course.assigned
   pub staffed : 1 ≤ course.workers
 
--- what is known of a message: its worker, from 1, or 0 where it has not begun; the tick at which it began;
--- whether it has ended, and at which tick
+-- what is known of a message: its worker, from 1, or 0 where it has not begun; the time at which it began;
+-- whether it has ended, and when
 pub record Turn : Type 0 where
   pub worker : ℕ
   pub start : ℕ
@@ -84,7 +84,7 @@ measured course s = record {
   think = course.work.think;
 }
 
--- the tick at which message n is issued
+-- the time at which message n is issued
 abbrev pub issue_in : Course → State → ℕ → ℕ
 issue_in course s = issue_of (measured course s) (start_in s)
 
@@ -96,8 +96,8 @@ key_in course s = key_of course.version (measured course s) (start_in s)
 abbrev pub IsIssued : Course → State → ℕ → Type 0
 IsIssued course s n = (i : ℕ) → course.work.follows n ≡ Some i → HasEnded s i
 
--- the issue has come at this time. Where what is issued first is served first, that is after the tick of the
--- issue, when all that are issued at it are known
+-- the issue has come at this time. Where what is issued first is served first, that is a nanosecond after the
+-- issue, when all that are issued then are known
 abbrev pub HasCome : Version → ℕ → ℕ → Type 0
 HasCome V1 issue clock = issue ≤ clock
 HasCome V2 issue clock = issue ≤ clock
@@ -136,12 +136,12 @@ abbrev pub begun_on : State → ℕ → ℕ → State
 begun_on s x n =
     with_turn s n (record { worker = x; start = s.clock; ended = false; finish = 0 })
 
--- the tick at which message n finishes that ends when it is now: no time that was known before is later, and
--- at least a tick after its start
+-- the time at which message n finishes that ends when it is now: no time that was known before is later, and
+-- at least a nanosecond after its start
 abbrev pub finish_at : State → ℕ → ℕ → ℕ
 finish_at s n now = max (max now s.clock) (start_in s n + 1)
 
--- the turn of a message that has ended at this tick
+-- the turn of a message that has finished at this time
 abbrev pub ended_turn : Turn → ℕ → Turn
 ended_turn turn finish = record {
   worker = turn.worker;

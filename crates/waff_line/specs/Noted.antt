@@ -12,7 +12,7 @@ shown turn = record { worker = turn.worker; start = turn.start; ended = turn.end
 abbrev pub state_of : ℕ → List NotedTurn → State
 state_of clock turns = record { clock = clock; turns = map shown turns }
 
--- of each worker the message that it runs is noted, and starts are so early that there are later ticks
+-- of each worker the message that it runs is noted, and starts are so early that there are later times
 pub record AreNoted (s : State) (runs : List ℕ) : Type 0 where
   pub own : (n : ℕ) → IsRunning s n → slice_index runs ((turn_of s n).worker - 1) ≡ n
   pub early : (n : ℕ) → HasBegun s n → start_in s n < NEVER

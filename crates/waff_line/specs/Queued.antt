@@ -7,6 +7,7 @@ use Rattle.waff_plan.specs.Timing.{work_of}
 use Rattle.waff_plan.specs.declared.timing.Timing.{Timing}
 use Rattle.waff_line.specs.Lined.{IsLined, LineValue, latecomers}
 use Rattle.waff_line.specs.Machine.{Course, State}
+use Rattle.waff_line.specs.Scaled.{scaled}
 use Rattle.waff_line.specs.declared.queue.Queue.{Queue}
 
 -- what a run of the messages of a queue on so many workers is of
@@ -15,23 +16,24 @@ course_of queue workers = record {
   version = queue.case.trace.now.version;
   tree = queue.case.tree.now;
   assigned = queue.case.assigned.now;
-  work = work_of queue.timings.items;
+  work = scaled queue.tick (work_of queue.timings.items);
   workers = workers;
 }
 
 -- what is seen of a line over a queue, with the state and how many workers there are
-abbrev pub value_by : Case → List Timing → State × ℕ → LineValue
-value_by case timings n = record {
+abbrev pub value_by : Case → List Timing → ℕ → State × ℕ → LineValue
+value_by case timings tick n = record {
   version = case.trace.now.version;
   tree = case.tree.now;
   assigned = case.assigned.now;
   timings = timings;
+  tick = tick;
   workers = n.1;
   state = n.0;
 }
 
 abbrev pub value_of : Queue → State × ℕ → LineValue
-value_of queue n = value_by queue.case queue.timings.items n
+value_of queue n = value_by queue.case queue.timings.items queue.tick n
 
 -- the queue goes with this state of the machine, as long as it is not over
 pub record IsQueue (queue : Queue) (workers : ℕ) (s : State) : Type 0 where

@@ -11,16 +11,17 @@ use Rattle.waff_plan.specs.Workers.{IsWorkerPlan}
 use Rattle.waff_line.specs.Laws.{AreAllEnded, begins, ends, order_in}
 use Rattle.waff_line.specs.Machine.{Course, Reaches, Runs, State, finish_in, measured, opening, start_in, turn_of}
 use Rattle.waff_line.specs.Noted.{shown}
+use Rattle.waff_line.specs.Scaled.{scaled}
 use Rattle.waff_line.specs.declared.event.Event.{Event}
 use Rattle.waff_line.specs.declared.turn.Turn.{Turn}
 
--- what a run of an instance by so many workers is of
-abbrev pub course_by : Instance → ℕ → Course
-course_by instance workers = record {
+-- what a run of an instance by so many workers is of, where a tick of its trace is so many nanoseconds
+abbrev pub course_by : Instance → ℕ → ℕ → Course
+course_by instance workers tick = record {
   version = instance.trace.version;
   tree = instance.tree;
   assigned = instance.assigned;
-  work = work_of_messages instance.trace.messages;
+  work = scaled tick (work_of_messages instance.trace.messages);
   workers = workers;
 }
 
@@ -55,10 +56,10 @@ pub record RunsOnce (events : List Event) (n : ℕ) : Type 0 where
 
 -- what the events of a run left is a plan of the measured work:
 -- - it obeys, in the order in which it issues messages itself, before the third version in that of the trace, and
---   at each tick no more messages run than there are workers;
--- - each message ran for a tick at least, and runs once;
+--   at no time more messages run than there are workers;
+-- - each message ran for a nanosecond at least, and runs once;
 -- - the messages of one worker run one after another;
--- - no two messages that exclude each other run at a common tick
+-- - no two messages that exclude each other run at one time
 pub record ArePlanned (course : Course) (events : List Event) (s : State) : Type 0 where
   pub plan : IsWorkerPlan (order_in course s) (measured course s) course.workers (start_in s)
   pub runs : EachRuns (measured course s)

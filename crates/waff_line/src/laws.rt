@@ -7,13 +7,13 @@ ghost use Rattle.waff_line.specs.Laws.{WorkersAreOwn, WorkersAreThere};
 ghost use Rattle.waff_line.specs.Machine.{Course, IsCourse};
 
 /// Where all messages have ended, their starts are a plan for the measured work, in the order in which the plan
-/// issues the messages itself, or before the third version in that of the trace. Each has run for a tick at least.
+/// issues the messages itself, or before the third version in that of the trace. Each has run for a nanosecond at least.
 pub fn run_obeys()
     ensures obeys { (course : Course) → IsCourse course → RunObeys course }
     ensures runs { (course : Course) → IsCourse course → EachHasRun course }
 {}
 
-/// It is a plan for the workers of the course: at each tick no more messages run than there are workers.
+/// It is a plan for the workers of the course: at no time more messages run than there are workers.
 pub fn run_is_worker_plan()
     ensures { (course : Course) → IsCourse course → RunIsWorkerPlan course }
 {}

@@ -5,6 +5,7 @@ ghost use Rattle.waff_plan.specs.Timetable.{work_of_messages};
 ghost use Rattle.waff_line.specs.Lined.{course_in};
 ghost use Rattle.waff_line.specs.Machine.{IsRunning, Steps, opening};
 ghost use Rattle.waff_line.specs.Noted.{shown};
+ghost use Rattle.waff_line.specs.Scaled.{scaled};
 ghost use Rattle.waff_line.specs.declared.event.Event.TheVariants.{Begin, End, Tell};
 ghost use Rattle.waff_line.specs.declared.queue.Ended.TheVariants.{NotRunning};
 
@@ -48,20 +49,20 @@ impl<'a> Model for Line<'a> {
 }
 
 impl<'a> Line<'a> {
-    /// The line of a case for this many workers, before anything has happened.
-    pub fn of(alloc: Global, case: Case<'a>, workers: u32) -> Result<Self, AllocError>
+    /// The line of a case for this many workers, before anything has happened. A tick of the trace is `tick` nanoseconds.
+    pub fn of(alloc: Global, case: Case<'a>, workers: u32, tick: u32) -> Result<Self, AllocError>
         ensures course { IfOk result (λ line. course_in line ≡ record {
           version = case.entry.trace.now.version;
           tree = case.entry.tree.now;
           assigned = case.entry.assigned.now;
-          work = work_of_messages case.entry.trace.now.messages;
+          work = scaled tick (work_of_messages case.entry.trace.now.messages);
           workers = workers;
         }) }
         ensures opening { IfOk result (λ line. line.state ≡ opening (course_in line)) }
     {
         let count = case.trace.len();
         Ok(Line {
-            queue: Queue::of(alloc, case)?,
+            queue: Queue::of(alloc, case, tick)?,
             notes: Notes::none(alloc, count as usize, workers)?,
             hints: Waiting::none(alloc, count as usize, workers)?,
             waiting: count,
@@ -92,8 +93,8 @@ impl<'a> Line<'a> {
         self.hints.is_ready()
     }
 
-    /// The time from which on the next message joins, or `NEVER` where none is known. By issue that is
-    /// behind its issue: all that are issued at a tick are known when it is over.
+    /// The time from which on the next message joins, or `NEVER` where none is known. By issue that is a nanosecond
+    /// behind its issue: all that are issued at once are known then.
     pub fn next(&self) -> u64 {
         let issue = self.queue.next();
         if self.queue.case.trace.version().has_clients() {
@@ -135,7 +136,7 @@ impl<'a> Line<'a> {
         Ok(Some(m))
     }
 
-    /// Message `m`, which runs, ends at this time, and no sooner than a tick after its start.
+    /// Message `m`, which runs, ends at this time, and no sooner than a nanosecond after its start.
     pub fn end(&mut self, m: u32, now: u64) -> Result<Ended, AllocError>
         ensures course { course_in self.new ≡ course_in self.old }
         ensures ended { IsRunning self.old.state m

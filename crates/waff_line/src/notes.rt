@@ -13,7 +13,7 @@ use waff_plan::NEVER;
 /// machine, and how many workers there are.
 #[derive(Drop)]
 pub(crate) struct Notes {
-    /// The greatest time that it was told, in ticks.
+    /// The greatest time that it was told.
     clock: u64,
     turns: Vec<Turn>,
     /// The message that each worker runs, 0 for none.
@@ -45,7 +45,7 @@ impl Notes {
         })
     }
 
-    /// The greatest time that it was told, in ticks.
+    /// The greatest time that it was told.
     pub fn clock(&self) -> u64
         ensures { result ≡ self.now.0.clock }
     {
@@ -109,7 +109,7 @@ impl Notes {
         self.runs[worker as usize - 1] = m;
     }
 
-    /// Message `m`, which runs, ends at this time, and no sooner than a tick after its start. Its finish.
+    /// Message `m`, which runs, ends at this time, and no sooner than a nanosecond after its start. Its finish.
     pub fn end(&mut self, m: u32, now: u64) -> u64
         requires { IsRunning self.old.0 m }
         ensures ended { self.new ≡ (ended_at self.old.0 m now, self.old.1) }

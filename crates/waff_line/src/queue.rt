@@ -1,6 +1,6 @@
 //! Which messages are due, which have joined the order of service, and what is issued when one ends.
 
-ghost use Rattle.std.specs.Prelude.{◌≡◌, ◌≢◌, ◌-◌, ◌≤◌, ℕ, length, map, false, All, IfOk, IfSome, OnOk};
+ghost use Rattle.std.specs.Prelude.{◌≡◌, ◌≢◌, ◌-◌, ◌*◌, ◌≤◌, ℕ, length, map, false, All, IfOk, IfSome, OnOk};
 ghost use Rattle.std.specs.Prelude.{slice_index};
 ghost use Rattle.waff_assign.specs.Order.{affinity_of};
 ghost use Rattle.waff_order.specs.Joined.{HaveJoined};
@@ -10,20 +10,26 @@ ghost use Rattle.waff_plan.specs.Timetable.{timings_of};
 ghost use Rattle.waff_plan.specs.Timing.{IsTiming, work_of};
 ghost use Rattle.waff_line.specs.Machine.{IsRunning, MayBegin, Reaches, ended_at, opening};
 ghost use Rattle.waff_line.specs.Noted.{CanBegin};
-ghost use Rattle.waff_line.specs.Lined.{IsFollowedBy, first_joined};
+ghost use Rattle.waff_line.specs.Lined.{AreFirstDue, IsFollowedBy, first_joined};
 ghost use Rattle.waff_line.specs.Queued.{IsQueue, course_of};
-ghost use Rattle.waff_line.specs.declared.queue.TheConstants.{MAX_RUN};
+ghost use Rattle.waff_line.specs.Scaled.{scaled};
+ghost use Rattle.waff_line.specs.declared.queue.TheConstants.{MAX_TIME};
+ghost use Rattle.waff_model.specs.declared.limits.TheConstants.{MAX_MESSAGES};
 
 use crate::notes::Notes;
 use crate::order::Order;
 use std::alloc::{AllocError, Global};
+use std::cmp::Reverse;
 use waff_assign::Case;
 use waff_model::limits::{MAX_COST, MAX_TICK, MAX_WORKERS};
-use waff_plan::followers::{first_issues, followers};
+use waff_plan::followers::followers;
 use waff_plan::{Due, NEVER, Timing, timings};
 
 /// The most ticks of a run: its sums then fit into the text of a plan for as many workers as there can be.
 const MAX_RUN: u64 = MAX_TICK / MAX_WORKERS as u64;
+
+/// The most nanoseconds of a run, some 300 years. With a think time more they fit into 64 bits, however long ticks are.
+const MAX_TIME: u64 = 10_000_000_000_000_000_000;
 
 /// How the end of a message went.
 #[derive(Clone, Copy, Debug, PartialEq)]
@@ -35,7 +41,7 @@ pub enum Ended {
     NotRunning,
 }
 
-/// A message that has joined: its issue, and its place in the order of service, from 1.
+/// A message that has joined: its issue in nanoseconds, and its place in the order of service, from 1.
 #[derive(Clone, Copy)]
 pub(crate) struct Joined {
     pub issue: u64,
@@ -49,7 +55,10 @@ pub(crate) struct Joined {
 #[derive(Drop)]
 pub(crate) struct Queue<'a> {
     pub case: Case<'a>,
+    /// In ticks, as the trace has them.
     pub timings: Vec<Timing>,
+    /// Nanoseconds of a tick.
+    pub tick: u32,
     /// The message that follows each by its client, 0 for none.
     pub nexts: Vec<u32>,
     pub order: Order<'a>,
@@ -60,21 +69,23 @@ pub(crate) struct Queue<'a> {
 }
 
 impl<'a> Queue<'a> {
-    /// The queue of a case before anything has happened.
-    pub fn of(alloc: Global, case: Case<'a>) -> Result<Self, AllocError>
+    /// The queue of a case before anything has happened. A tick is so many nanoseconds.
+    pub fn of(alloc: Global, case: Case<'a>, tick: u32) -> Result<Self, AllocError>
         ensures case { IfOk result (λ queue. queue.case ≡ case.entry) }
         ensures timings { IfOk result (λ queue.
             queue.timings.items ≡ timings_of case.entry.trace.now.messages) }
+        ensures tick { IfOk result (λ queue. queue.tick ≡ tick) }
         ensures queue { IfOk result (λ queue.
             (workers : ℕ) → IsQueue queue workers (opening (course_of queue workers))) }
     {
         let timings = timings(alloc, case.trace)?;
         let nexts = followers(alloc, timings.as_slice())?;
-        let due = first_issues(alloc, timings.as_slice())?;
+        let due = first_due(alloc, timings.as_slice(), tick)?;
         let order = first_order(alloc, &case)?;
         Ok(Queue {
             case,
             timings,
+            tick,
             nexts,
             order,
             due,
@@ -82,7 +93,7 @@ impl<'a> Queue<'a> {
         })
     }
 
-    /// The tick at which the next message is due, or `NEVER` where none is known.
+    /// The time at which the next message is due, or `NEVER` where none is known.
     pub fn next(&self) -> u64 {
         self.due.next()
     }
@@ -92,6 +103,7 @@ impl<'a> Queue<'a> {
         requires { IsQueue self.old notes.now.1 notes.now.0 }
         ensures case { self.new.case ≡ self.old.case }
         ensures timings { self.new.timings.items ≡ self.old.timings.items }
+        ensures tick { self.new.tick ≡ self.old.tick }
         ensures queue { IsQueue self.new notes.now.1 notes.now.0 }
     {
         if self.is_over {
@@ -104,13 +116,14 @@ impl<'a> Queue<'a> {
         }
     }
 
-    /// By issue a message joins when the tick of its issue is over: all that are issued at it are known then.
+    /// By issue a message joins a nanosecond after its issue: all that are issued with it are known then.
     fn join_by_issue(&mut self, notes: &Notes) -> Result<Option<Joined>, AllocError>
         requires queue { IsQueue self.old notes.now.1 notes.now.0 }
         requires version { self.old.case.trace.now.version ≡ V3 }
         requires going { self.old.is_over ≡ false }
         ensures case { self.new.case ≡ self.old.case }
         ensures timings { self.new.timings.items ≡ self.old.timings.items }
+        ensures tick { self.new.tick ≡ self.old.tick }
         ensures queue { IsQueue self.new notes.now.1 notes.now.0 }
     {
         let clock = notes.clock();
@@ -141,7 +154,7 @@ impl<'a> Queue<'a> {
             return None;
         }
         let m = self.order.message(place);
-        if u64::from(self.timings[m as usize - 1].floor) > notes.clock() {
+        if nanos(self.timings[m as usize - 1].floor, self.tick) > notes.clock() {
             return None;
         }
         if notes.can_begin(worker, m) && self.order.is_clear(notes, place) {
@@ -158,6 +171,7 @@ impl<'a> Queue<'a> {
         requires reached { Reaches (course_of self.old notes.old.1) notes.old.0 }
         ensures case { self.new.case ≡ self.old.case }
         ensures timings { self.new.timings.items ≡ self.old.timings.items }
+        ensures tick { self.new.tick ≡ self.old.tick }
         ensures ended { notes.new ≡ (ended_at notes.old.0 m now, notes.old.1) }
         ensures queue { IsQueue self.new notes.new.1 notes.new.0 }
     {
@@ -165,12 +179,13 @@ impl<'a> Queue<'a> {
         self.is_over = true;
         let start = notes.turn(m).start;
         let finish = notes.end(m, now);
-        if finish - start > u64::from(MAX_COST) || finish > MAX_RUN {
+        if finish - start > nanos(MAX_COST, self.tick) || finish > latest(self.tick) {
             return Ok(Ended::TooLong);
         }
         follow(
             self.timings.as_slice(),
             self.nexts.as_slice(),
+            self.tick,
             &mut self.due,
             m,
             finish,
@@ -193,19 +208,20 @@ fn take_due(due: &mut Due, clock: u64) -> Option<Joined> {
     })
 }
 
-/// The message that follows `m`, which has finished at this tick, is due at its issue.
+/// The message that follows `m`, which has finished at this time, is due at its issue.
 fn follow(
     timings: &[Timing],
     nexts: &[u32],
+    tick: u32,
     due: &mut Due,
     m: u32,
     finish: u64,
 ) -> Result<(), AllocError>
     requires number { IsAmongFirst (length nexts.now) m }
     requires nexts { slice_index nexts.now (m - 1) ≤ length timings.now }
-    requires early { finish ≤ MAX_RUN }
+    requires early { finish ≤ MAX_TIME }
     requires timings { All IsTiming timings.now }
-    ensures { OnOk result (IsFollowedBy (work_of timings.now) finish
+    ensures { OnOk result (IsFollowedBy (scaled tick (work_of timings.now)) finish
         (slice_index nexts.now (m - 1)) due.old due.new) }
 {
     let next = nexts[m as usize - 1];
@@ -213,8 +229,37 @@ fn follow(
         return Ok(());
     }
     let timing = timings[next as usize - 1];
-    let thought = finish + u64::from(timing.think);
-    due.push(u64::from(timing.floor).max(thought), next)
+    let thought = finish + nanos(timing.think, tick);
+    due.push(nanos(timing.floor, tick).max(thought), next)
+}
+
+/// The messages that follow none are due at their releases.
+fn first_due(alloc: Global, timings: &[Timing], tick: u32) -> Result<Due, AllocError>
+    requires few { length timings.now ≤ MAX_MESSAGES }
+    ensures { IfOk result (AreFirstDue (scaled tick (work_of timings.now)) (length timings.now)) }
+{
+    let mut issues = Vec::with_capacity(alloc, timings.len())?;
+    for m in 1..timings.len() as u32 + 1 {
+        let timing = timings[m as usize - 1];
+        if timing.follows == 0 {
+            issues.push_reserved(Reverse((nanos(timing.floor, tick), m)));
+        }
+    }
+    Ok(Due::of(alloc, issues))
+}
+
+/// So many ticks in nanoseconds. As both numbers have 32 bits, the time has 64.
+fn nanos(ticks: u32, tick: u32) -> u64
+    ensures { result ≡ ticks * tick }
+{
+    u64::from(ticks) * u64::from(tick)
+}
+
+/// The time by which a run has to end.
+fn latest(tick: u32) -> u64
+    ensures { result ≤ MAX_TIME }
+{
+    MAX_RUN.saturating_mul(u64::from(tick)).min(MAX_TIME)
 }
 
 /// The order of service of a case when its run begins.

@@ -4,7 +4,7 @@ ghost use Rattle.std.specs.Prelude.{◌≡◌};
 ghost use Rattle.waff_line.specs.Machine.{no_turn};
 ghost use Rattle.waff_line.specs.Noted.{shown};
 
-/// When a message began and finished, in ticks from the beginning of the run, and on which worker it ran.
+/// When a message began and finished, in nanoseconds from the beginning of the run, and on which worker it ran.
 #[derive(Clone, Copy)]
 pub struct Turn {
     pub start: u64,

@@ -43,7 +43,7 @@ struct Wait {
     left: u32,
     /// The one of its needs that finished last.
     last: Last,
-    /// Since when it could begin but for a worker, in ticks.
+    /// Since when it could begin but for a worker.
     since: u64,
 }
 

@@ -1,9 +1,13 @@
 mod Alike
-mod ByIssue
+mod Counted
 mod Kept
-mod ServedByIssue
-mod Turns
+mod Measured
+mod Pass
+mod Placing
 mod Ran
+mod Rows
 mod Sooner
+mod Steps
 mod Telling
 mod Unique
+mod Walking

@@ -6,7 +6,7 @@ use Rattle.waff_line.specs.Turns.{AreRunTurns}
 use Rattle.waff_line.specs.declared.turn.Turn.{Turn}
 use Rattle.waff_record.specs.Laws.{IsRunCourse}
 use Rattle.waff_record.specs.Rounded.{HasOtherCosts, MayStart}
-use Rattle.waff_record.specs.Runs.{turn_at}
+use Rattle.waff_record.specs.Turns.{turn_at}
 use Rattle.waff_record.proofs.Ran.{ran_after, ran_some}
 
 module _ (course : Course) (ticks : Work) (tick : ℕ) (turns : List Turn) (is : IsRunCourse course ticks tick) (ran : AreRunTurns course turns) where

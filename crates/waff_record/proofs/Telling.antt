@@ -19,7 +19,7 @@ use Rattle.waff_line.specs.declared.turn.Turn.{Turn}
 use Rattle.waff_line.proofs.Seating.{few_run}
 use Rattle.waff_record.specs.Laws.{IsRunCourse, RoundingTells, measured_by, run_order}
 use Rattle.waff_record.specs.Rounded.{GoesBefore, IsRounded}
-use Rattle.waff_record.specs.Runs.{turn_at}
+use Rattle.waff_record.specs.Turns.{turn_at}
 use Rattle.waff_record.proofs.Ran.{ran_alone, ran_apart, ran_order, ran_some, ran_there}
 
 module _ (course : Course) (ticks : Work) (tick : ℕ) (turns : List Turn) (is : IsRunCourse course ticks tick) (ran : AreRunTurns course turns) where

@@ -6,7 +6,7 @@ use Rattle.waff_line.specs.Turns.{AreRunTurns}
 use Rattle.waff_line.specs.declared.turn.Turn.{Turn}
 use Rattle.waff_record.specs.Laws.{IsRunCourse, RoundingIsOne}
 use Rattle.waff_record.specs.Rounded.{IsRounded}
-use Rattle.waff_record.specs.Runs.{turn_at}
+use Rattle.waff_record.specs.Turns.{turn_at}
 use Rattle.waff_record.proofs.Sooner.{may_alike, may_back}
 use Rattle.waff_record.proofs.Telling.{count_is, number_told}
 

@@ -1,5 +1,5 @@
 -- What holds of the rounding of the turns of a run.
-use Rattle.std.specs.Prelude.{◌≡◌, ℕ, ◌-◌, ◌≤◌, List, length, Option, Some}
+use Rattle.std.specs.Prelude.{◌≡◌, ℕ, ◌-◌, ◌≤◌, List, length}
 use Rattle.waff_assign.specs.Order.{IsOrdered, Relation}
 use Rattle.waff_plan.specs.Apart.{AreApart}
 use Rattle.waff_plan.specs.Obeys.{EachRuns, FollowsEarlier, KeepsOrder, StartsIssued}
@@ -8,10 +8,11 @@ use Rattle.waff_plan.specs.Work.{Work, IsNumber, finish_of}
 use Rattle.waff_plan.specs.Workers.{running}
 use Rattle.waff_check.specs.Promises.{AreOneAtATime}
 use Rattle.waff_line.specs.Machine.{Course}
+use Rattle.waff_line.specs.Scaled.{scaled}
 use Rattle.waff_line.specs.Turns.{AreRunTurns}
 use Rattle.waff_line.specs.declared.turn.Turn.{Turn}
-use Rattle.waff_record.specs.Rounded.{IsRounded, scaled}
-use Rattle.waff_record.specs.Runs.{turn_at}
+use Rattle.waff_record.specs.Rounded.{IsRounded}
+use Rattle.waff_record.specs.Turns.{turn_at, worker_of}
 
 -- the work as it was measured, in nanoseconds: each message costs what lies between its start and its finish
 abbrev pub measured_by : Course → List Turn → Work
@@ -28,10 +29,6 @@ measured_by course turns = record {
 abbrev pub run_order : Course → List Turn → Relation
 run_order course turns =
     served_before course.version course.tree course.assigned (measured_by course turns) (λ n. (turn_at turns n).start)
-
--- the worker of message n
-abbrev pub worker_of : List Turn → ℕ → Option ℕ
-worker_of turns n = Some (turn_at turns n).worker
 
 -- a plan of what was told of turns:
 -- - no message starts before it is issued, and each runs for a tick at least;

@@ -1,4 +1,7 @@
-pub mod Runs
-pub mod Service
+pub mod Turns
 pub mod Rounded
 pub mod Laws
+pub mod Begun
+pub mod Drift
+pub mod Ran
+pub mod Runs

@@ -1,11 +1,11 @@
 -- What is told of the turns of a run, whose times are nanoseconds: their rounding to ticks.
-use Rattle.std.specs.Prelude.{◌≡◌, ◌⊎◌, ℕ, ◌+◌, ◌*◌, ◌/◌, ◌<◌, ◌≤◌, max, List}
+use Rattle.std.specs.Prelude.{◌≡◌, ◌⊎◌, ℕ, ◌+◌, ◌/◌, ◌<◌, ◌≤◌, max, List}
 use Rattle.waff_model.specs.Tree.{Excludes}
 use Rattle.waff_assign.specs.Order.{affinity_of}
 use Rattle.waff_plan.specs.Work.{Work, IsAmongFirst, IsNumber, finish_of, issue_of}
 use Rattle.waff_line.specs.Machine.{Course}
 use Rattle.waff_line.specs.declared.turn.Turn.{Turn}
-use Rattle.waff_record.specs.Runs.{turn_at}
+use Rattle.waff_record.specs.Turns.{turn_at}
 
 -- message i goes before message m: it began first, and they exclude each other, or ran on one worker
 pub record GoesBefore (course : Course) (turns : List Turn) (i m : ℕ) : Type 0 where
@@ -42,13 +42,3 @@ pub record IsRounded (course : Course) (ticks : Work) (tick : ℕ) (turns : List
     : Type 0 where
   pub work_is : HasOtherCosts ticks work
   pub told : (m : ℕ) → IsNumber work m → IsTold course tick turns work start m
-
--- work with its times in nanoseconds, where a tick is so many of them
-abbrev pub scaled : ℕ → Work → Work
-scaled tick work = record {
-  count = work.count;
-  cost = λ m. work.cost m * tick;
-  floor = λ m. work.floor m * tick;
-  follows = work.follows;
-  think = λ m. work.think m * tick;
-}

@@ -1,15 +1,14 @@
--- What a run gives out: the trace with the costs that were measured, and a plan of it.
-use Rattle.std.specs.Prelude.{◌≡◌, ℕ, ◌-◌, ◌≤◌, List, Some, Ok, false, length, slice_index_or}
+-- What a run gives out: the trace with the costs that are told, and a plan of it.
+use Rattle.std.specs.Prelude.{◌≡◌, ℕ, ◌*◌, ◌≤◌, List, Option, Some, Ok, length}
 use Rattle.waff_model.specs.Messages.{Arrivals}
 use Rattle.waff_model.specs.Numbers.{IsAmongFirst}
 use Rattle.waff_model.specs.declared.message.Message.{Message}
 use Rattle.waff_assign.specs.Instance.{Instance}
-use Rattle.waff_assign.specs.Order.{Relation}
 use Rattle.waff_plan.specs.Apart.{AreApart}
-use Rattle.waff_plan.specs.Instances.{served_first}
-use Rattle.waff_plan.specs.Obeys.{Obeys}
-use Rattle.waff_plan.specs.Timetable.{message_of}
-use Rattle.waff_plan.specs.Work.{IsNumber, finish_of}
+use Rattle.waff_plan.specs.Obeys.{KeepsOrder, StartsIssued}
+use Rattle.waff_plan.specs.Timetable.{Timetable, message_of, starts_in, work_in, work_of_messages}
+use Rattle.waff_plan.specs.Timing.{start_of}
+use Rattle.waff_plan.specs.Work.{IsNumber, finish_of, length_of}
 use Rattle.waff_plan.specs.Workers.{running}
 use Rattle.waff_plan_text.specs.Given.{Given}
 use Rattle.waff_plan_text.specs.PlanTexts.{plan_of}
@@ -18,9 +17,13 @@ use Rattle.waff_check.specs.Promises.{AreOneAtATime, Promises}
 use Rattle.waff_check.specs.Verdicts.{Claim, IsVerdict, claim_of, pairs_of_claim, start_in, starts_of}
 use Rattle.waff_check.specs.Verdicts.{told_finish, work_of_claim, worker_in, workers_in}
 use Rattle.waff_check.specs.declared.verdict.Verdict.{Verdict}
-use Rattle.waff_plan.specs.Timing.{start_of}
+use Rattle.waff_line.specs.Turns.{course_by}
 use Rattle.waff_line.specs.declared.turn.Turn.{Turn}
 use Rattle.waff_inputs.specs.Inputs.{Accepts}
+use Rattle.waff_record.specs.Drift.{drift_of, last_finish}
+use Rattle.waff_record.specs.Laws.{run_order}
+use Rattle.waff_record.specs.Rounded.{IsRounded}
+use Rattle.waff_record.specs.Turns.{worker_of}
 
 -- a message is the same as another but for its cost
 pub record IsSameButCost (message other : Message) : Type 0 where
@@ -37,15 +40,10 @@ pub record IsMeasured (trace measured : Arrivals) : Type 0 where
   pub each : (n : ℕ) → IsAmongFirst (length trace.messages) n
       → IsSameButCost (message_of trace.messages n) (message_of measured.messages n)
 
--- the order in which a plan that is given is to serve messages that exclude each other
-abbrev pub service_of : Claim → Relation
-service_of claim = served_first claim.instance (start_in claim)
-
 -- a plan that is given for the messages of a trace is one for k workers in which the check finds no fault; and
 -- what holds of it:
 -- - each message runs once: it has a row of its own, whose finish is its start and its cost;
--- - none starts before it is issued, nor before those have finished that exclude it and are to be served first: in
---   the third version those that the plan issues first, before it those that come first in the trace;
+-- - none starts before it is issued;
 -- - at each tick at most k messages run, each on a worker of its own, and no two of them exclude each other
 pub record IsKept (claim : Claim) (k : ℕ) : Type 0 where
   pub verdict : Verdict
@@ -56,49 +54,54 @@ pub record IsKept (claim : Claim) (k : ℕ) : Type 0 where
   pub once : length claim.plan.rows ≡ length claim.instance.trace.messages
   pub finishes : (n : ℕ) → IsNumber (work_of_claim claim) n
       → told_finish claim.plan n ≡ finish_of (work_of_claim claim) (start_in claim) n
-  pub order : Obeys (service_of claim) (work_of_claim claim) (start_in claim)
+  pub issued : StartsIssued (work_of_claim claim) (start_in claim)
   pub within : (t : ℕ) → running (work_of_claim claim) (start_in claim) t ≤ k
   pub seated : AreOneAtATime (work_of_claim claim) (start_in claim) (worker_in claim.plan) k
   pub apart : AreApart (pairs_of_claim claim) (work_of_claim claim) (start_in claim)
 
--- of no message
-abbrev pub no_turn : Turn
-no_turn = record { start = 0; finish = 0; worker = 0; after = 0; late = 0; ended = false }
+-- how long a plan that is given is
+abbrev pub length_in : Claim → ℕ
+length_in claim = length_of (work_of_claim claim) (start_in claim)
 
--- the turn of message n, from 1
-abbrev pub turn_at : List Turn → ℕ → Turn
-turn_at turns n = slice_index_or turns (n - 1) no_turn
+-- of message n a plan that is given tells what another one has, and the worker of its turn
+pub record TellsRow (given : Given) (plan : Timetable) (turns : List Turn) (n : ℕ) : Type 0 where
+  pub start : start_of (starts_of given) n ≡ starts_in plan n
+  pub finish : told_finish given n ≡ finish_of (work_in plan) (starts_in plan) n
+  pub worker : worker_in given n ≡ worker_of turns n
 
--- message n of a plan that is given starts and finishes when a turn does, on the worker of that turn
-pub record HasTurn (plan : Given) (n : ℕ) (turn : Turn) : Type 0 where
-  pub start : start_of (starts_of plan) n ≡ turn.start
-  pub finish : told_finish plan n ≡ turn.finish
-  pub worker : worker_in plan n ≡ Some turn.worker
+-- and so of each of so many messages
+abbrev pub TellsRows : Given → Timetable → List Turn → ℕ → Type 0
+TellsRows given plan turns count = (n : ℕ) → IsAmongFirst count n → TellsRow given plan turns n
 
--- each of so many messages has the turn of its number
-abbrev pub HaveTurns : Given → List Turn → ℕ → Type 0
-HaveTurns plan turns count = (n : ℕ) → IsAmongFirst count n → HasTurn plan n (turn_at turns n)
-
--- a plan that is given for the messages of a trace is that of turns: each message has its own, and costs what lies
--- between its start and its finish
-pub record IsPlanOf (claim : Claim) (turns : List Turn) : Type 0 where
+-- a plan that is given is what is told of the turns of a run of an instance by k workers, in ticks of so many nanoseconds:
+-- - its starts and costs are the rounding of the turns, of each message its own;
+-- - each message is on the worker of its turn;
+-- - of messages that exclude each other the one that the run served first has finished when the other starts: the one
+--   issued first by the clock of the run, before the third version the one that comes first in the trace
+pub record IsPlanOf (ran : Instance) (k tick : ℕ) (turns : List Turn) (claim : Claim) : Type 0 where
   pub count : length turns ≡ length claim.instance.trace.messages
-  pub each : HaveTurns claim.plan turns (length turns)
-  pub costs : (n : ℕ) → IsNumber (work_of_claim claim) n
-      → (work_of_claim claim).cost n ≡ (turn_at turns n).finish - (turn_at turns n).start
+  pub rounded : IsRounded (course_by ran k tick) (work_of_messages ran.trace.messages) tick turns
+      (work_of_claim claim) (start_in claim)
+  pub workers : (n : ℕ) → IsNumber (work_of_claim claim) n
+      → worker_in claim.plan n ≡ worker_of turns n
+  pub order : KeepsOrder (run_order (course_by ran k tick) turns)
+      (work_of_claim claim) (start_in claim)
 
--- a text is that of such a plan
-pub record IsPlanFor (instance : Instance) (k : ℕ) (turns : List Turn) (text : List ℕ) : Type 0 where
+-- a text is that of such a plan, for the messages of an instance; and by how many per cent it is longer than what was
+-- measured, where that is more than one
+pub record IsPlanFor (ran instance : Instance) (k tick : ℕ) (turns : List Turn) (text : List ℕ)
+    (drift : Option ℕ) : Type 0 where
   pub given : Given
   pub is_plan : plan_of instance.trace.version (length instance.trace.messages) text ≡ Ok given
   pub kept : IsKept (claim_of instance given) k
-  pub told : IsPlanOf (claim_of instance given) turns
+  pub told : IsPlanOf ran k tick turns (claim_of instance given)
+  pub drifts : drift ≡ drift_of (length_in (claim_of instance given) * tick) (last_finish turns)
 
--- what is told of turns of the messages of a trace, on k workers: the text of a measured trace, and that of the plan
--- of these turns
-pub record AreRunTexts (hierarchy_file : List ℕ) (trace : Arrivals) (k : ℕ) (turns : List Turn)
-    (measured_file text : List ℕ) : Type 0 where
+-- what is told of turns of the messages of an instance, on k workers, in ticks of so many nanoseconds: the text of a trace
+-- with the costs that are told, that of the plan that is told of these turns, and its drift
+pub record AreRunTexts (hierarchy_file : List ℕ) (ran : Instance) (k tick : ℕ) (turns : List Turn)
+    (measured_file text : List ℕ) (drift : Option ℕ) : Type 0 where
   pub instance : Instance
   pub accepts : Accepts hierarchy_file measured_file instance
-  pub measured : IsMeasured trace instance.trace
-  pub plan : IsPlanFor instance k turns text
+  pub measured : IsMeasured ran.trace instance.trace
+  pub plan : IsPlanFor ran instance k tick turns text drift

@@ -1,18 +1,21 @@
 //! The texts of a run, read again and tried.
 
 ghost use Rattle.std.specs.Bool.{OnTrue};
-ghost use Rattle.std.specs.Prelude.{◌≡◌, ◌↔◌, IfOk, IsTrue, OnOk, length};
+ghost use Rattle.std.specs.Prelude.{◌≡◌, ◌*◌, IfOk, OnOk, length};
 ghost use Rattle.waff_assign.specs.Case.{instance_of};
 ghost use Rattle.waff_check.specs.Promises as promises;
-ghost use Rattle.waff_check.specs.Verdicts.{claim_of, start_in, work_of_claim};
+ghost use Rattle.waff_check.specs.Verdicts.{claim_of};
 ghost use Rattle.waff_inputs.specs.Inputs.{Accepts, instance_under};
 ghost use Rattle.waff_model.specs.Numbers.{IsAmongFirst};
-ghost use Rattle.waff_plan.specs.Obeys.{KeepsOrder};
-ghost use Rattle.waff_record.specs.Runs.{HasTurn, HaveTurns, IsKept, IsMeasured, IsPlanFor, IsPlanOf};
-ghost use Rattle.waff_record.specs.Runs.{IsSameButCost, service_of, turn_at};
+ghost use Rattle.waff_plan.specs.Timetable.{starts_in, work_in};
+ghost use Rattle.waff_plan.specs.Work.{length_of};
+ghost use Rattle.waff_record.specs.Drift.{drift_of, last_finish};
+ghost use Rattle.waff_record.specs.Ran.{IsToldRun};
+ghost use Rattle.waff_record.specs.Runs.{IsKept, IsMeasured, IsPlanFor, IsPlanOf, IsSameButCost};
+ghost use Rattle.waff_record.specs.Runs.{TellsRow, TellsRows, length_in};
 
 use crate::fault::RecordError;
-use crate::service::keeps_service_order;
+use crate::told_run::ToldRun;
 use std::alloc::{AllocError, Global};
 use std::thread::Threads;
 use waff_assign::Case;
@@ -20,7 +23,7 @@ use waff_check::{GivenPlan, PlanTextError, Verdict, check, read_plan};
 use waff_inputs::{Accepted, ToolError, accept_by_threads};
 use waff_line::Turn;
 use waff_model::{Message, Ops, Trace};
-use waff_plan::Planned;
+use waff_plan::Plan;
 
 /// Reads the measured trace, and the hierarchy again.
 pub fn accept_measured<R: Threads + Sync>(
@@ -54,43 +57,53 @@ fn refused_plan(error: PlanTextError) -> RecordError {
     }
 }
 
-/// Tries the texts of a run, of which the measured one was accepted: it has to be a trace with the messages of this
-/// one but for their costs, and the other the text of the plan of these turns, for so many workers, which obeys.
-pub fn try_texts<R: Threads + Sync>(
+/// Tries the texts of a run, of which that of the trace was accepted: it has to be a trace with the messages of the run but
+/// for their costs, and the other the text of the plan that is told, for as many workers, which obeys.
+pub(crate) fn try_texts<R: Threads + Sync>(
     rt: &R,
     alloc: Global,
-    trace: &Trace,
+    told: &ToldRun<'_>,
     accepted: &Accepted,
     text: &[u8],
-    turns: &[Turn],
-    workers: u32,
+    drift: Option<u128>,
 ) -> Result<(), RecordError>
-    ensures measured { OnOk result (IsMeasured trace.now accepted.now.trace) }
-    ensures plan { OnOk result (IsPlanFor (instance_under accepted.now.layout
-        accepted.now.assigned accepted.now.trace) workers turns.now text.now) }
+    requires told { IsToldRun told.now }
+    requires drift { drift ≡ drift_of
+        (length_of (work_in told.now.plan.now) (starts_in told.now.plan.now) * told.now.run.tick)
+        (last_finish told.now.run.turns.now) }
+    ensures measured { OnOk result (IsMeasured told.now.run.case.trace.now accepted.now.trace) }
+    ensures plan { OnOk result (IsPlanFor (instance_of told.now.run.case)
+        (instance_under accepted.now.layout accepted.now.assigned accepted.now.trace)
+        told.now.run.workers told.now.run.tick told.now.run.turns.now text.now drift) }
 {
-    if !is_measured(trace, &accepted.trace) {
+    if !is_measured(told.run.case.trace, &accepted.trace) {
         return Err(RecordError::Refused);
     }
-    try_plan(rt, alloc, &accepted.case(), text, turns, workers)
+    try_plan(rt, alloc, told, &accepted.case(), text, drift)
 }
 
-/// Tries the text of the plan of these turns, for so many workers.
+/// Tries the text of the plan that is told.
 fn try_plan<R: Threads + Sync>(
     rt: &R,
     alloc: Global,
+    told: &ToldRun<'_>,
     case: &Case<'_>,
     text: &[u8],
-    turns: &[Turn],
-    workers: u32,
+    drift: Option<u128>,
 ) -> Result<(), RecordError>
-    ensures { OnOk result (IsPlanFor (instance_of case.now) workers turns.now text.now) }
+    requires measured { IsMeasured told.now.run.case.trace.now case.now.trace.now }
+    requires told { IsToldRun told.now }
+    requires drift { drift ≡ drift_of
+        (length_of (work_in told.now.plan.now) (starts_in told.now.plan.now) * told.now.run.tick)
+        (last_finish told.now.run.turns.now) }
+    ensures { OnOk result (IsPlanFor (instance_of told.now.run.case) (instance_of case.now)
+        told.now.run.workers told.now.run.tick told.now.run.turns.now text.now drift) }
 {
     let given = match read_plan(alloc, case.trace.version(), case.trace.len(), text) {
         Ok(given) => given,
         Err(error) => return Err(refused_plan(error)),
     };
-    let kept = is_plan_of(rt, alloc, case, &given, turns, workers);
+    let kept = is_plan_of(rt, alloc, told, case, &given);
     drop(given);
     match kept {
         Ok(true) => Ok(()),
@@ -99,60 +112,67 @@ fn try_plan<R: Threads + Sync>(
     }
 }
 
-/// Whether a plan that was read for a case is that of these turns, and is kept by so many workers.
+/// Whether a plan that was read for a case is the one that is told, and is kept.
 fn is_plan_of<R: Threads + Sync>(
     rt: &R,
     alloc: Global,
+    told: &ToldRun<'_>,
     case: &Case<'_>,
     given: &GivenPlan,
-    turns: &[Turn],
-    workers: u32,
 ) -> Result<bool, AllocError>
+    requires told { IsToldRun told.now }
+    requires measured { IsMeasured told.now.run.case.trace.now case.now.trace.now }
     requires rows { length given.now.rows ≡ length case.now.trace.now.messages }
     requires version { given.now.version ≡ case.now.trace.now.version }
     ensures kept { IfOk result (λ is. OnTrue is
-        (IsKept (claim_of (instance_of case.now) given.now) workers)) }
-    ensures told { IfOk result (λ is. OnTrue is
-        (IsPlanOf (claim_of (instance_of case.now) given.now) turns.now)) }
+        (IsKept (claim_of (instance_of case.now) given.now) told.now.run.workers)) }
+    ensures told { IfOk result (λ is. OnTrue is (IsPlanOf (instance_of told.now.run.case)
+        told.now.run.workers told.now.run.tick told.now.run.turns.now
+        (claim_of (instance_of case.now) given.now))) }
+    ensures length { IfOk result (λ is. OnTrue is
+        (length_in (claim_of (instance_of case.now) given.now)
+        ≡ length_of (work_in told.now.plan.now) (starts_in told.now.plan.now))) }
 {
-    if !tells_turns(given, turns) {
+    let _messages = told.plan.len();
+    if !tells_rows(given, told) {
         return Ok(false);
     }
-    is_kept(rt, alloc, case, given, workers)
+    is_kept(rt, alloc, case, given, told.run.workers)
 }
 
-/// Whether a plan that was read tells these turns of its messages, and no others.
-fn tells_turns(given: &GivenPlan, turns: &[Turn]) -> bool
-    ensures count { OnTrue result (length turns.now ≡ length given.now.rows) }
-    ensures each { OnTrue result (HaveTurns given.now turns.now (length turns.now)) }
+/// Whether a plan that was read tells what is told of the messages of a run, and of no others.
+fn tells_rows(given: &GivenPlan, told: &ToldRun<'_>) -> bool
+    ensures count { OnTrue result (length told.now.plan.now.timings ≡ length given.now.rows) }
+    ensures each { OnTrue result (TellsRows given.now told.now.plan.now told.now.run.turns.now
+        (length given.now.rows)) }
 {
     let count = given.len();
-    if turns.len() != count as usize {
+    if told.plan.len() != count || told.run.turns.len() != count as usize {
         return false;
     }
     for at in 0..count {
-        if !has_turn(given, turns, at + 1) {
+        if !tells_row(given, told.plan, told.run.turns, at + 1) {
             return false;
         }
     }
     true
 }
 
-/// Whether message `n` starts and finishes when its turn does, on the worker of that turn.
-fn has_turn(given: &GivenPlan, turns: &[Turn], n: u32) -> bool
+/// Whether the row of message `n` has the start and the finish of a plan, and the worker of its turn.
+fn tells_row(given: &GivenPlan, plan: &Plan, turns: &[Turn], n: u32) -> bool
     requires row { IsAmongFirst (length given.now.rows) n }
+    requires number { IsAmongFirst (length plan.now.timings) n }
     requires turn { IsAmongFirst (length turns.now) n }
-    ensures { OnTrue result (HasTurn given.now n (turn_at turns.now n)) }
+    ensures { OnTrue result (TellsRow given.now plan.now turns.now n) }
 {
     let row = given.row(n);
     let turn = &turns[n as usize - 1];
-    row.start == turn.start
-        && row.finish == turn.finish
+    row.start == plan.start(n)
+        && row.finish == plan.finish(n)
         && row.worker == Some(u64::from(turn.worker))
 }
 
-/// Whether a plan that was read for a case is one for so many workers in which the check finds no fault, and which
-/// keeps the order of service.
+/// Whether a plan that was read for a case is one for so many workers in which the check finds no fault.
 fn is_kept<R: Threads + Sync>(
     rt: &R,
     alloc: Global,
@@ -169,28 +189,7 @@ fn is_kept<R: Threads + Sync>(
         return Ok(false);
     }
     let verdict = check(rt, alloc, case.tree, case.assigned, case.trace, given)?;
-    if !tells_no_fault(&verdict) {
-        return Ok(false);
-    }
-    keeps_order(alloc, case, given)
-}
-
-/// Whether the plan of the starts that were read keeps the order of service.
-fn keeps_order(alloc: Global, case: &Case<'_>, given: &GivenPlan) -> Result<bool, AllocError>
-    requires rows { length given.now.rows ≡ length case.now.trace.now.messages }
-    ensures { IfOk result (λ kept. IsTrue kept
-        ↔ KeepsOrder (service_of (claim_of (instance_of case.now) given.now))
-        (work_of_claim (claim_of (instance_of case.now) given.now))
-        (start_in (claim_of (instance_of case.now) given.now))) }
-{
-    let plan = given.plan(alloc, case.trace)?;
-    let planned = Planned {
-        case: *case,
-        plan: &plan,
-    };
-    let kept = keeps_service_order(alloc, &planned);
-    drop(plan);
-    kept
+    Ok(tells_no_fault(&verdict))
 }
 
 /// Whether a verdict tells no fault.

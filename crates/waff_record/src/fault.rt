@@ -6,6 +6,8 @@ use std::alloc::AllocError;
 #[derive(Clone, Copy, Debug, PartialEq)]
 pub enum RecordError {
     Memory,
+    /// This message would be told to finish too late, or to run for too many ticks.
+    Tick(u32),
     /// The turns are none of a run of this trace that obeys.
     Refused,
 }

@@ -1,66 +1,101 @@
 //! What is told of a run, made of the turns of its messages.
 
-ghost use Rattle.std.specs.Prelude.{IfOk, OnOk, string_bytes};
+ghost use Rattle.std.specs.Prelude.{◌≡◌, ◌*◌, IfOk, OnOk, string_bytes};
+ghost use Rattle.waff_assign.specs.Case.{instance_of};
 ghost use Rattle.waff_inputs.specs.Inputs.{instance_under};
-ghost use Rattle.waff_plan.specs.Bound.{IsWorkers};
+ghost use Rattle.waff_plan.specs.Timetable.{starts_in, work_in};
+ghost use Rattle.waff_plan.specs.Work.{length_of};
+ghost use Rattle.waff_record.specs.Drift.{drift_of, last_finish, short_turns};
+ghost use Rattle.waff_record.specs.Ran.{HasRun, IsToldRun};
 ghost use Rattle.waff_record.specs.Runs.{AreRunTexts, IsMeasured, IsPlanFor};
 
 use crate::checked::{accept_measured, try_texts};
+use crate::drift::{drift_of, last_finish, short_turns};
 use crate::fault::RecordError;
+use crate::rounding::rounded;
 use crate::told::{measured_text, plan_text};
+use crate::told_run::ToldRun;
+use crate::turns::RunTurns;
 use std::alloc::{AllocError, Global};
 use std::thread::Threads;
 use waff_inputs::Accepted;
 use waff_line::Turn;
-use waff_model::Trace;
 
 /// What a run tells.
 #[derive(Drop)]
 pub struct Recorded {
-    /// The trace with the costs that were measured.
+    /// The trace with the costs that are told.
     pub measured: String,
-    /// The text of the plan of what happened.
+    /// The text of the plan that is told.
     pub text: String,
+    /// By how many per cent what is told is longer than what was measured, where that is more than one.
+    pub drift: Option<u128>,
     pub tally: Tally,
 }
 
-/// What is told of a run at a terminal, in ticks.
+/// What is told of a run at a terminal.
 #[derive(Clone, Copy)]
 pub struct Tally {
-    /// How long the run was.
+    /// How long the run was, in ticks.
     pub length: u64,
-    /// The median of how late messages began.
+    /// The median of how late messages began, in nanoseconds.
     pub late: u64,
+    /// How many messages were shorter than a tick.
+    pub short: u32,
 }
 
-/// What is told of what happened, where the check accepts it.
+/// What is told of a run of the messages of these files, in ticks.
 pub fn record_of<R: Threads + Sync>(
     rt: &R,
     alloc: Global,
-    trace: &Trace,
+    run: &RunTurns<'_>,
     hierarchy: &[u8],
     bytes: &[u8],
-    turns: &[Turn],
-    workers: u32,
 ) -> Result<Recorded, RecordError>
-    requires workers { IsWorkers workers }
-    ensures { IfOk result (λ ran. AreRunTexts hierarchy.now trace.now workers turns.now
-        (string_bytes ran.measured) (string_bytes ran.text)) }
+    requires ran { HasRun run.now }
+    ensures texts { IfOk result (λ ran. AreRunTexts hierarchy.now (instance_of run.now.case)
+        run.now.workers run.now.tick run.now.turns.now
+        (string_bytes ran.measured) (string_bytes ran.text) ran.drift) }
+    ensures short { IfOk result
+        (λ ran. ran.tally.short ≡ short_turns run.now.tick run.now.turns.now) }
 {
-    let tally = tally_of(alloc, turns)?;
-    let measured = measured_text(alloc, bytes, turns)?.ok_or(RecordError::Refused)?;
-    match text_for(
-        rt,
-        alloc,
-        trace,
-        hierarchy,
-        measured.as_bytes(),
-        turns,
-        workers,
-    ) {
+    let plan = rounded(alloc, run)?;
+    let told = ToldRun {
+        run: *run,
+        plan: &plan,
+    };
+    let recorded = record_told(rt, alloc, &told, hierarchy, bytes);
+    drop(plan);
+    recorded
+}
+
+/// The same, where the plan that is told is known.
+fn record_told<R: Threads + Sync>(
+    rt: &R,
+    alloc: Global,
+    told: &ToldRun<'_>,
+    hierarchy: &[u8],
+    bytes: &[u8],
+) -> Result<Recorded, RecordError>
+    requires told { IsToldRun told.now }
+    ensures texts { IfOk result (λ ran. AreRunTexts hierarchy.now (instance_of told.now.run.case)
+        told.now.run.workers told.now.run.tick told.now.run.turns.now
+        (string_bytes ran.measured) (string_bytes ran.text) ran.drift) }
+    ensures short { IfOk result
+        (λ ran. ran.tally.short ≡ short_turns told.now.run.tick told.now.run.turns.now) }
+{
+    let tally = tally_of(alloc, told)?;
+    let drift = drift_of(
+        told.plan.length(),
+        told.run.tick,
+        last_finish(told.run.turns),
+    );
+    let measured = measured_text(alloc, bytes, told.plan)?.ok_or(RecordError::Refused)?;
+    match text_for(rt, alloc, told, hierarchy, measured.as_bytes(), drift) {
         Ok(text) => Ok(Recorded {
             measured,
             text,
+            drift,
             tally,
         }),
         Err(error) => {
@@ -70,42 +105,48 @@ pub fn record_of<R: Threads + Sync>(
     }
 }
 
-/// The text of the plan of what happened, for the measured trace, which is read again.
+/// The text of the plan that is told, for the trace with the costs that are told, which is read again.
 fn text_for<R: Threads + Sync>(
     rt: &R,
     alloc: Global,
-    trace: &Trace,
+    told: &ToldRun<'_>,
     hierarchy: &[u8],
     measured: &[u8],
-    turns: &[Turn],
-    workers: u32,
+    drift: Option<u128>,
 ) -> Result<String, RecordError>
-    requires workers { IsWorkers workers }
-    ensures { IfOk result (λ text.
-        AreRunTexts hierarchy.now trace.now workers turns.now measured.now (string_bytes text)) }
+    requires told { IsToldRun told.now }
+    requires drift { drift ≡ drift_of
+        (length_of (work_in told.now.plan.now) (starts_in told.now.plan.now) * told.now.run.tick)
+        (last_finish told.now.run.turns.now) }
+    ensures { IfOk result (λ text. AreRunTexts hierarchy.now (instance_of told.now.run.case)
+        told.now.run.workers told.now.run.tick told.now.run.turns.now
+        measured.now (string_bytes text) drift) }
 {
     let accepted = accept_measured(rt, alloc, hierarchy, measured)?;
-    let text = tried_text(rt, alloc, trace, &accepted, turns, workers);
+    let text = tried_text(rt, alloc, told, &accepted, drift);
     drop(accepted);
     text
 }
 
-/// The text of the plan of what happened, for the measured trace that was accepted.
+/// The text of the plan that is told, for the trace that was accepted.
 fn tried_text<R: Threads + Sync>(
     rt: &R,
     alloc: Global,
-    trace: &Trace,
+    told: &ToldRun<'_>,
     accepted: &Accepted,
-    turns: &[Turn],
-    workers: u32,
+    drift: Option<u128>,
 ) -> Result<String, RecordError>
-    requires workers { IsWorkers workers }
-    ensures measured { OnOk result (IsMeasured trace.now accepted.now.trace) }
-    ensures plan { IfOk result (λ text. IsPlanFor (instance_under accepted.now.layout
-        accepted.now.assigned accepted.now.trace) workers turns.now (string_bytes text)) }
+    requires told { IsToldRun told.now }
+    requires drift { drift ≡ drift_of
+        (length_of (work_in told.now.plan.now) (starts_in told.now.plan.now) * told.now.run.tick)
+        (last_finish told.now.run.turns.now) }
+    ensures measured { OnOk result (IsMeasured told.now.run.case.trace.now accepted.now.trace) }
+    ensures plan { IfOk result (λ text. IsPlanFor (instance_of told.now.run.case)
+        (instance_under accepted.now.layout accepted.now.assigned accepted.now.trace)
+        told.now.run.workers told.now.run.tick told.now.run.turns.now (string_bytes text) drift) }
 {
-    let text = plan_text(alloc, &accepted.case(), turns, workers)?.ok_or(RecordError::Refused)?;
-    match try_texts(rt, alloc, trace, accepted, text.as_bytes(), turns, workers) {
+    let text = plan_text(alloc, told, &accepted.case())?.ok_or(RecordError::Refused)?;
+    match try_texts(rt, alloc, told, accepted, text.as_bytes(), drift) {
         Ok(()) => Ok(text),
         Err(error) => {
             drop(text);
@@ -114,18 +155,26 @@ fn tried_text<R: Threads + Sync>(
     }
 }
 
-/// How long the run was, and how late its messages began.
-fn tally_of(alloc: Global, turns: &[Turn]) -> Result<Tally, AllocError> {
-    let mut lates = Vec::with_capacity(alloc, turns.len())?;
-    let mut length = 0;
-    for turn in turns {
-        lates.push(turn.late)?;
-        length = turn.finish.max(length);
-    }
+/// How long the run was, how late its messages began, and how many were shorter than a tick.
+fn tally_of(alloc: Global, told: &ToldRun<'_>) -> Result<Tally, AllocError>
+    ensures { IfOk result
+        (λ tally. tally.short ≡ short_turns told.now.run.tick told.now.run.turns.now) }
+{
+    let turns = told.run.turns;
+    let late = median_late(alloc, turns)?;
+    Ok(Tally {
+        length: told.plan.length(),
+        late,
+        short: short_turns(turns, told.run.tick),
+    })
+}
+
+/// The median of how late messages began.
+fn median_late(alloc: Global, turns: &[Turn]) -> Result<u64, AllocError> {
+    let mut lates: Vec<u64> = turns.iter().map(|turn| turn.late).collect(alloc)?;
     lates.sort_unstable();
-    let late = match lates.get(lates.len().saturating_sub(1) / 2) {
-        Some(late) => *late,
-        None => 0,
-    };
-    Ok(Tally { length, late })
+    match lates.get(lates.len().saturating_sub(1) / 2) {
+        Some(late) => Ok(*late),
+        None => Ok(0),
+    }
 }

@@ -5,7 +5,7 @@ use Rattle.std.proofs.lemmas.Bool.{cases_Bool, cases_lt, false≢true}
 use Rattle.std.proofs.lemmas.List.{get_or-map, length-map}
 use Rattle.std.proofs.lemmas.List.Elements.{All-get_or}
 use Rattle.waff_assign.specs.Instance.{Instance}
-use Rattle.waff_plan.specs.Timetable.{AreTimings, timings_of}
+use Rattle.waff_plan.specs.Timetable.{AreTimings, timings_of, work_of_messages}
 use Rattle.waff_plan.proofs.TimingLemmas.{length-timings_of}
 use Rattle.waff_line.specs.Laws.{AreAllEnded}
 use Rattle.waff_line.specs.Lined.{LineValue, course_in}
@@ -15,6 +15,7 @@ use Rattle.waff_line.specs.Turns.{AreReached, AreRunTurns, course_by}
 use Rattle.waff_line.specs.declared.event.Event.{Event}
 use Rattle.waff_line.specs.declared.event.Event.TheVariants.{Begin, End}
 use Rattle.waff_line.specs.declared.turn.Turn.{Turn as NotedTurn}
+use Rattle.waff_line.proofs.Scaling.{earlier_scaled}
 use Rattle.waff_line.proofs.Sound.{sound_reached}
 use Rattle.waff_run.proofs.Planned.{AreLaws, planned}
 
@@ -90,10 +91,10 @@ run_turns course is laws noted turns there all same =
     })
 
 -- the course of an instance is one
-pub is_course_by : (instance : Instance) (workers : ℕ) → AreTimings instance.trace.version (timings_of instance.trace.messages)
-    → length instance.assigned ≡ length instance.trace.messages → 1 ≤ workers → IsCourse (course_by instance workers)
-is_course_by instance workers timings long staffed = record {
-  earlier = timings.earlier;
+pub is_course_by : (instance : Instance) (workers tick : ℕ) → AreTimings instance.trace.version (timings_of instance.trace.messages)
+    → length instance.assigned ≡ length instance.trace.messages → 1 ≤ workers → IsCourse (course_by instance workers tick)
+is_course_by instance workers tick timings long staffed = record {
+  earlier = earlier_scaled tick (work_of_messages instance.trace.messages) timings.earlier;
   alone = timings.alone;
   many = length-timings_of instance.trace.messages ∙ sym long;
   staffed = staffed;

@@ -17,13 +17,23 @@ pub enum Stopped {
     File(usize),
     /// Only so many workers could be started, the first of them counted.
     Threads(u32),
-    /// The line would have gone on out of turn.
+    /// The line would have gone on out of turn, or the check did not accept what was run.
     Line,
 }
 
 impl From<AllocError> for Stopped {
     fn from(_error: AllocError) -> Stopped {
         Stopped::Memory
+    }
+}
+
+impl From<RecordError> for Stopped {
+    fn from(error: RecordError) -> Stopped {
+        match error {
+            RecordError::Memory => Stopped::Memory,
+            RecordError::Tick(m) => Stopped::Tick(m),
+            RecordError::Refused => Stopped::Line,
+        }
     }
 }
 
@@ -66,16 +76,5 @@ impl From<AllocError> for RunError {
 impl From<ToolError> for RunError {
     fn from(error: ToolError) -> RunError {
         RunError::Tool(error)
-    }
-}
-
-impl From<RecordError> for RunError {
-    ghost from_gives = { λ _ error. (messages : ℕ) → IsOfRun messages error };
-
-    fn from(error: RecordError) -> RunError {
-        match error {
-            RecordError::Memory => RunError::Tool(ToolError::Memory),
-            RecordError::Refused => RunError::Run,
-        }
     }
 }

@@ -3,7 +3,8 @@
 //! The cells lie in files of a folder; threads do the operations of messages, each when the line of the run
 //! lets it begin. What they noted is a plan that obeys, whoever ran when. It is told by `waff_record`.
 //! - `running`: a run, from the accepted files to the two texts; `fault`: why there are none.
-//! - `workers`: the threads, over one lock round the line; `threads`: where they wait until all are there; `going`: the
+//! - `workers`: the threads, over one lock round the line; `locked`: what is behind the lock; `shared`: what they share, and
+//!   how they look, sleep and wake; `threads`: where they wait until all are there; `pace`: how many they are; `going`: the
 //!   line, whose type says of which run it is, and the tokens of its messages.
 //! - `perform`: the operations of a message; `calls`: how many of them are one call; `syncing`: which files are synced
 //!   at its end.
@@ -31,12 +32,15 @@ mod calls;
 mod fault;
 mod going;
 pub mod laws;
+mod locked;
 mod opening;
+mod pace;
 mod part;
 mod perform;
 mod places;
 mod running;
 mod same;
+mod shared;
 mod spots;
 mod store;
 mod syncing;
@@ -45,10 +49,11 @@ mod workers;
 
 pub use fault::{RunError, Stopped};
 pub use opening::{Entry, How, Opened, Opens, Site};
+pub use pace::Pace;
 pub use part::Part;
 pub use places::{Places, Spot};
 pub use running::{Settings, planned_length, run_on};
 pub use same::Identity;
 pub use store::{Folder, Store, StoreFault};
 pub use syncing::Syncs;
-pub use workers::{Pace, run};
+pub use workers::run;

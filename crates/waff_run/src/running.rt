@@ -1,6 +1,6 @@
 //! A run, from the accepted files to the two texts.
 
-ghost use Rattle.std.specs.Prelude.{ℕ, IfErr, IfOk, length, string_bytes};
+ghost use Rattle.std.specs.Prelude.{◌≤◌, ℕ, IfErr, IfOk, length, string_bytes};
 ghost use Rattle.waff_inputs.specs.Inputs.{instance_under};
 ghost use Rattle.waff_line.specs.Turns.{AreRunTurns, course_by};
 ghost use Rattle.waff_plan.specs.Bound.{IsWorkers};
@@ -9,12 +9,13 @@ ghost use Rattle.waff_run.specs.Texts.{TellRun};
 
 use crate::calls::longest_call;
 use crate::fault::{RunError, Stopped};
+use crate::pace::Pace;
 use crate::perform::{Room, fill};
 use crate::places::Places;
 use crate::spots::spots;
 use crate::store::{Store, file_name};
 use crate::syncing::Syncs;
-use crate::workers::{Pace, run};
+use crate::workers::run;
 use std::alloc::{AllocError, Global};
 use std::marker::Sync;
 use std::rt::Clock;
@@ -24,7 +25,7 @@ use waff_inputs::{Accepted, ToolError};
 use waff_line::Turn;
 use waff_list::{Rule, list_plan_of};
 use waff_model::Trace;
-use waff_record::{Recorded, accept_measured, record_of};
+use waff_record::{RecordError, Recorded, RunTurns, accept_measured, record_of};
 
 /// How a run is run.
 #[derive(Clone, Copy)]
@@ -50,26 +51,24 @@ pub fn run_on<R: Threads + Wait + Clock + Eprint + Sync, S: Store + Sync>(
     settings: &Settings<'_>,
 ) -> Result<Recorded, RunError>
     requires workers { IsWorkers settings.now.pace.workers }
+    requires tick { 1 ≤ settings.now.pace.tick }
     ensures told { IfOk result (λ ran. TellRun hierarchy.now
         (instance_under accepted.now.layout accepted.now.assigned accepted.now.trace)
-        settings.now.pace.workers (string_bytes ran.measured) (string_bytes ran.text)) }
+        settings.now.pace.workers settings.now.pace.tick (string_bytes ran.measured) (string_bytes ran.text) ran.drift) }
     ensures refused { IfErr result (IsOfRun (length accepted.now.trace.messages)) }
 {
     let turns = turns_of(rt, alloc, accepted, store, places, settings)?;
-    let workers = settings.pace.workers;
-    let ran = record_of(
-        rt,
-        alloc,
-        &accepted.trace,
-        hierarchy,
-        trace,
-        turns.as_slice(),
-        workers,
-    );
+    let run = RunTurns {
+        case: accepted.case(),
+        turns: turns.as_slice(),
+        workers: settings.pace.workers,
+        tick: settings.pace.tick,
+    };
+    let ran = record_of(rt, alloc, &run, hierarchy, trace);
     drop(turns);
     match ran {
         Ok(recorded) => Ok(recorded),
-        Err(error) => Err(RunError::from(error)),
+        Err(error) => Err(fault_of(alloc, accepted, places, Stopped::from(error))),
     }
 }
 
@@ -84,7 +83,7 @@ fn turns_of<R: Threads + Wait + Clock + Eprint + Sync, S: Store + Sync>(
 ) -> Result<Vec<Turn>, RunError>
     requires workers { IsWorkers settings.now.pace.workers }
     ensures ran { IfOk result (λ turns. AreRunTurns (course_by (instance_under accepted.now.layout
-        accepted.now.assigned accepted.now.trace) settings.now.pace.workers) turns.items) }
+        accepted.now.assigned accepted.now.trace) settings.now.pace.workers settings.now.pace.tick) turns.items) }
     ensures refused { IfErr result (IsOfRun (length accepted.now.trace.messages)) }
 {
     let longest = longest_call(&accepted.trace, places);
@@ -173,7 +172,7 @@ pub fn planned_length<R: Threads + Sync>(
     hierarchy: &[u8],
     measured: &[u8],
     workers: u32,
-) -> Result<u64, RunError>
+) -> Result<u64, RecordError>
     requires workers { IsWorkers workers }
 {
     let accepted = accept_measured(rt, alloc, hierarchy, measured)?;

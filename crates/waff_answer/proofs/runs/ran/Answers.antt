@@ -18,8 +18,8 @@ returns-in-Ok g c =
     let instance = instance_under accepted.layout accepted.assigned accepted.trace in
     record {
       told = IfOk-weaker c.ran_on_files-ran.result _ _
-          (λ ran texts. subst (λ h. IsRunText h (second files) k (string_bytes ran.told.text)) hierarchy
-          (subst (λ t. IsRunText c.file-hierarchy.result.now t k (string_bytes ran.told.text)) trace
+          (λ ran texts. subst (λ h. IsRunText h (second files) k c.args.task.now.words.tick (string_bytes ran.told.text) ran.told.drift) hierarchy
+          (subst (λ t. IsRunText c.file-hierarchy.result.now t k c.args.task.now.words.tick (string_bytes ran.told.text) ran.told.drift) trace
           (record {
             instance = instance;
             accepts = is;

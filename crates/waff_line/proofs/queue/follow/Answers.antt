@@ -1,4 +1,5 @@
 use Rattle.std.proofs.Common.{◌-◌, get_or, arith}
+use Rattle.std.proofs.lemmas.Nat.{mul-le}
 use Rattle.waff_plan.specs.Timing.{no_timing}
 use Rattle.waff_line.proofs.queue.follow.Goals as goal
 
@@ -8,6 +9,8 @@ overflow_add-thought c =
     let some = c.if-next-eq0.false in
     let within = c.requires.nexts in
     let small = (c.requires.timings (next - 1) no_timing (omega (arith, some, within))).think in
-    let is = c.from.ensures in
+    let short = c.ranges.tick in
+    let most = mul-le (get_or c.args.timings.now (next - 1) no_timing).think c.args.tick 10000000 4294967295 (omega (arith, small)) (omega (arith, short)) in
+    let is = c.nanos.ensures in
     let early = c.requires.early in
-    omega (arith, small, is, early)
+    omega (arith, most, is, early)

@@ -8,5 +8,5 @@ use Rattle.waff_run.proofs.workers.run_at.Goals as goal
 pub ended-requires : goal.ended-requires
 ended-requires g c =
     subst (λ (course : Course). IsCourse course) c.requires.course
-    (is_course_by (instance_of c.args.case) c.args.pace.workers (are_timings c.args.case.trace.now c.len-messages.ensures.trace) c.args.case.lengths
+    (is_course_by (instance_of c.args.case) c.args.pace.workers c.args.pace.tick (are_timings c.args.case.trace.now c.len-messages.ensures.trace) c.args.case.lengths
     c.requires.workers.from)

@@ -1,6 +1,6 @@
-use Rattle.std.proofs.Common.{◌≡◌, ℕ, length, replicate, ap, sym, ◌∙◌}
+use Rattle.std.proofs.Common.{ℕ, length, ap, sym, ◌∙◌}
 use Rattle.waff_plan.proofs.TimingLemmas.{length-timings_of}
-use Rattle.waff_line.specs.Machine.{State, no_turn}
+use Rattle.waff_line.specs.Machine.{State}
 use Rattle.waff_line.proofs.Going.{fresh, stands_opening}
 use Rattle.waff_line.proofs.line.Line.of.Goals as goal
 

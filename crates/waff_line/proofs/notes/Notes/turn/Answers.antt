@@ -1,4 +1,4 @@
-use Rattle.std.proofs.Common.{◌≡◌, ℕ, ap, sym, ◌∙◌, arith}
+use Rattle.std.proofs.Common.{ℕ, ap, sym, ◌∙◌, arith}
 use Rattle.waff_line.specs.Machine.{State, turn_of}
 use Rattle.waff_line.specs.Noted.{shown}
 use Rattle.waff_line.proofs.Noting.{turn_at}

@@ -1,4 +1,4 @@
-use Rattle.std.proofs.Common.{◌≡◌, ℕ, ◌<◌, get_or}
+use Rattle.std.proofs.Common.{ℕ, ◌<◌, get_or}
 use Rattle.waff_line.specs.Lined.{served_at}
 use Rattle.waff_line.specs.Machine.{HasEnded}
 use Rattle.waff_line.proofs.order.Order.is_clear.Given as goal

@@ -1,4 +1,4 @@
-use Rattle.std.proofs.Common.{◌≡◌, ℕ, ◌-◌, ◌<◌, ◌≤◌, length, get_or, ap, sym, subst, arith}
+use Rattle.std.proofs.Common.{◌≡◌, ℕ, ◌-◌, ◌*◌, ◌<◌, length, get_or, ap, sym, ◌∙◌, subst, arith}
 use Rattle.std.proofs.lemmas.List.{get_or_default}
 use Rattle.waff_plan.specs.Timing.{no_timing}
 use Rattle.waff_plan.specs.Work.{IsAmongFirst}
@@ -60,11 +60,12 @@ returns-then-is_clear c =
     let named = ap (λ (m : ℕ). (get_or q.timings.items (m - 1) timing).floor) m_is in
     let named_too = ap (λ (m : ℕ). (get_or q.timings.items (m - 1) no_timing).floor) m_is in
     let read = ap (λ (t : Timing). t.floor) c.index.ensures in
-    let floor = c.from.ensures in
+    let floor_is : timing.floor ≡ (get_or q.timings.items (served - 1) no_timing).floor = omega (arith, read, named, named_too, default) in
+    let time = c.nanos.ensures ∙ ap (λ (f : ℕ). f * q.tick) floor_is in
     let clock = c.clock.ensures in
-    let early = c.if-from-clock.false in
+    let early = c.if-nanos-clock.false in
     subst (λ (m : ℕ). CanBegin s w x m × MayBegin (course_of q w) s x m) (sym m_is) (
       can,
       may_at q w s c.requires.queue c.if-self.false c.args.place place x c.requires.reached can
-          (omega (arith, early, clock, floor, read, named, named_too, default)) (c.is_clear.ensures c.if-is_clear.true),
+          (omega (arith, early, clock, time)) (c.is_clear.ensures c.if-is_clear.true),
     )

@@ -1,0 +1,12 @@
+//! How a run is run.
+
+/// How many workers a run has, and how long a tick of its trace is.
+#[derive(Clone, Copy)]
+pub struct Pace {
+    /// How many workers there are.
+    pub workers: u32,
+    /// Nanoseconds of a tick.
+    pub tick: u32,
+    /// Whether progress is told.
+    pub loud: bool,
+}
