@@ -1,15 +1,21 @@
 -- How the program ends where it runs messages: the text of a run on the output, or a line that tells why there is none.
-use Rattle.std.specs.Prelude.{◌≡◌, ℕ, ◌⊎◌, false, List, [], ◌∷◌, ◌++◌, Option, Some, None, codes, decimal, length, string_bytes}
+use Rattle.std.specs.Prelude.{◌≡◌, ℕ, ◌+◌, ◌⊎◌, false, if◌then◌else◌, is_some, List, [], ◌∷◌, ◌++◌, Option, Some, None, Ok, codes, decimal, length, string_bytes}
 use Rattle.std.specs.Io.KnownBytes.{Appends, Keeps}
 use Rattle.waff_io.specs.Writing.{AppendsPart}
 use Rattle.waff_assign.specs.Instance.{Instance}
+use Rattle.waff_read.specs.Hierarchies.{hierarchy_of}
 use Rattle.waff_inputs.specs.Fault.{fault_message, status_of}
 use Rattle.waff_inputs.specs.Inputs.{Accepts, Refuses}
 use Rattle.waff_inputs.specs.declared.fault.ToolError.TheVariants as tool
-use Rattle.waff_run.specs.Faults.{IsOfRun}
+use Rattle.waff_model.specs.Layout.{Hierarchy}
+use Rattle.waff_model.specs.Messages.{Arrivals}
+use Rattle.waff_run.specs.Faults.{IsOfRun, Told}
+use Rattle.waff_run.specs.Opening.{job_of}
+use Rattle.waff_run.specs.Places.{placing_of}
 use Rattle.waff_run.specs.Texts.{TellRun}
 use Rattle.waff_run.specs.declared.fault.RunError.{RunError}
 use Rattle.waff_run.specs.declared.fault.RunError.TheVariants as run
+use Rattle.waff_cli.specs.declared.task.RunTask.{RunTask}
 use Rattle.waff_cli.specs.declared.task.Task.{Task}
 use Rattle.waff_cli.specs.declared.task.Task.TheVariants as task
 use Rattle.waff_answer.specs.Answers.{bytes_of, first, second}
@@ -52,13 +58,28 @@ run_status (run.File name) = 4
 run_status (run.Threads workers) = 4
 run_status run.Run = 4
 
+-- what is told to a run by its words and the files that were read: whether files that no run has made are written over, whether the
+-- measured trace is wanted, and how many files there are beside those of cells
+abbrev pub told_by : RunTask → Told
+told_by wanted = record {
+  over = wanted.words.over;
+  measured = is_some wanted.words.trace;
+  others = 1 + length wanted.names.items + (if is_some wanted.words.trace then 2 else 0);
+}
+
+-- the error is one of a run of these messages under this layout, as it is wanted
+abbrev pub IsOfTask : Hierarchy → Arrivals → RunTask → RunError → Type 0
+IsOfTask layout trace wanted error =
+    IsOfRun (job_of layout (placing_of layout.spaces wanted.words.cell) trace) (told_by wanted)
+    wanted.words.workers error
+
 -- the error tells why the messages of these files were not run to their end: a file was refused; or both were accepted, and
 -- the error is one of a run of their messages. An allocation failure and a writer's fault tell nothing of the files
-abbrev pub RefusesRun : List ℕ → List ℕ → RunError → Type 0
-RefusesRun hierarchy_file trace_file (run.Tool error) = Refuses hierarchy_file trace_file error
-RefusesRun hierarchy_file trace_file error =
-    (instance : Instance) × Accepts hierarchy_file trace_file instance
-    × IsOfRun (length instance.trace.messages) error
+abbrev pub RefusesRun : List ℕ → List ℕ → RunTask → RunError → Type 0
+RefusesRun hierarchy_file trace_file wanted (run.Tool error) = Refuses hierarchy_file trace_file error
+RefusesRun hierarchy_file trace_file wanted error =
+    (instance : Instance) × (layout : Hierarchy) × Accepts hierarchy_file trace_file instance
+    × (hierarchy_of hierarchy_file ≡ Ok layout) × IsOfTask layout instance.trace wanted error
 
 -- the text of a run was written to the output, and to the error stream nothing but its drift, where it has one, and advice
 pub record IsRun (hierarchy_file trace_file : List ℕ) (k tick : ℕ) (quiet : Type 0)
@@ -80,20 +101,21 @@ HasPart hierarchy_file trace_file k tick error out new_out =
 
 -- the error stream has the line of an error that tells why there is no run, unless it failed, and the status is that of the
 -- error
-pub record IsNoRun (hierarchy_file trace_file : List ℕ) (k tick : ℕ) (quiet : Type 0)
+pub record IsNoRun (hierarchy_file trace_file : List ℕ) (wanted : RunTask)
     (out new_out err new_err : Option (List ℕ)) (failed : Type 0) (status : ℕ) : Type 0 where
   pub error : RunError
-  pub refused : RefusesRun hierarchy_file trace_file error
-  pub part : HasPart hierarchy_file trace_file k tick error out new_out
-  pub told : Advises quiet err new_err failed (run_message error)
+  pub refused : RefusesRun hierarchy_file trace_file wanted error
+  pub part : HasPart hierarchy_file trace_file wanted.words.workers wanted.words.tick error out new_out
+  pub told : Advises (wanted.loud ≡ false) err new_err failed (run_message error)
   pub status_is : status ≡ run_status error
 
--- how the program ends where it runs the messages of these files by k workers, with ticks of so many nanoseconds
-abbrev pub EndsRun : List ℕ → List ℕ → ℕ → ℕ → Type 0 → Option (List ℕ) → Option (List ℕ) → Option (List ℕ)
+-- how the program ends where it runs the messages of these files as it is wanted
+abbrev pub EndsRun : List ℕ → List ℕ → RunTask → Option (List ℕ) → Option (List ℕ) → Option (List ℕ)
     → Option (List ℕ) → Type 0 → ℕ → Type 0
-EndsRun hierarchy_file trace_file k tick quiet out new_out err new_err failed status =
-    IsRun hierarchy_file trace_file k tick quiet out new_out err new_err failed status
-    ⊎ IsNoRun hierarchy_file trace_file k tick quiet out new_out err new_err failed status
+EndsRun hierarchy_file trace_file wanted out new_out err new_err failed status =
+    IsRun hierarchy_file trace_file wanted.words.workers wanted.words.tick (wanted.loud ≡ false)
+    out new_out err new_err failed status
+    ⊎ IsNoRun hierarchy_file trace_file wanted out new_out err new_err failed status
 
 -- how it ends with what it is to do: where somebody reads the error stream, a question has names of its files, and a run is
 -- loud
@@ -102,5 +124,5 @@ EndsTask (task.Question question) out new_out err new_err failed status =
     Ends question.asked (bytes_of question.files.items) (question.names.items ≡ [])
     out new_out err new_err failed status
 EndsTask (task.Run wanted) out new_out err new_err failed status =
-    EndsRun (first (bytes_of wanted.files.items)) (second (bytes_of wanted.files.items))
-    wanted.words.workers wanted.words.tick (wanted.loud ≡ false) out new_out err new_err failed status
+    EndsRun (first (bytes_of wanted.files.items)) (second (bytes_of wanted.files.items)) wanted
+    out new_out err new_err failed status

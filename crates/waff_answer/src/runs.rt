@@ -1,15 +1,15 @@
 //! The messages run on files, and what is told of that.
-ghost use Rattle.std.specs.Prelude.{◌≡◌, ◌≤◌, ℕ, ◌⊎◌, Some, ◌++◌, [], false, List, IfErr, IfOk, OnOk, length, string_bytes};
+ghost use Rattle.std.specs.Prelude.{◌≡◌, ◌≤◌, ℕ, ◌⊎◌, Some, ◌++◌, [], false, List, IfErr, IfOk, OnOk, string_bytes};
 ghost use Rattle.std.specs.Io.KnownBytes.{Appends, Keeps};
 ghost use Rattle.waff_plan.specs.Bound.{IsWorkers};
 ghost use Rattle.waff_io.specs.Writing.{AppendsPart, Tells, WritesOrFails};
 ghost use Rattle.waff_inputs.specs.Inputs.{instance_under};
 ghost use Rattle.waff_inputs.specs.declared.fault.ToolError.TheVariants as tool;
-ghost use Rattle.waff_run.specs.Faults.{IsOfRun};
+ghost use Rattle.waff_run.specs.Opening.{told_of};
 ghost use Rattle.waff_run.specs.Texts.{TellRun};
 ghost use Rattle.waff_answer.specs.Answers.{bytes_of, first, second};
-ghost use Rattle.waff_answer.specs.Runs.{EndsRun, HasPart, IsRunText, RefusesRun, drift_message};
-ghost use Rattle.waff_answer.specs.Runs.{run_message, run_status};
+ghost use Rattle.waff_answer.specs.Runs.{EndsRun, HasPart, IsOfTask, IsRunText, RefusesRun, drift_message};
+ghost use Rattle.waff_answer.specs.Runs.{run_message, run_status, told_by};
 ghost use Rattle.waff_cli.specs.Advice.{advice_text};
 ghost use Rattle.waff_run.specs.declared.fault.RunError.TheVariants as run;
 
@@ -38,7 +38,7 @@ pub fn answer_run<
     E: ErrorStream,
 >(rt: &R, alloc: Global, task: &RunTask, out: &mut W, err: &mut E) -> u8
     ensures { EndsRun (first (bytes_of task.now.files.items)) (second (bytes_of task.now.files.items))
-        task.now.words.workers task.now.words.tick (task.now.loud ≡ false) (W.contents out.old) (W.contents out.new)
+        task.now (W.contents out.old) (W.contents out.new)
         (E.holds err.old) (E.holds err.new) (E.failed err.new) result }
 {
     match write_run(rt, alloc, task, out) {
@@ -185,7 +185,7 @@ fn write_run<R: Threads + Wait + Clock + Files + Opens + Eprint + Sync, W: Write
         task.now.words.workers task.now.words.tick text went.drift
         × Appends (W.contents out.old) (W.contents out.new) text) }
     ensures refused { IfErr result (RefusesRun (first (bytes_of task.now.files.items))
-        (second (bytes_of task.now.files.items))) }
+        (second (bytes_of task.now.files.items)) task.now) }
     ensures part { IfErr result (λ error. HasPart (first (bytes_of task.now.files.items))
         (second (bytes_of task.now.files.items)) task.now.words.workers task.now.words.tick error
         (W.contents out.old) (W.contents out.new)) }
@@ -247,7 +247,7 @@ fn ran<R: Threads + Wait + Clock + Files + Opens + Eprint + Sync>(
         (second (bytes_of task.now.files.items)) task.now.words.workers task.now.words.tick
         (string_bytes ran.told.text) ran.told.drift) }
     ensures refused { IfErr result (RefusesRun (first (bytes_of task.now.files.items))
-        (second (bytes_of task.now.files.items))) }
+        (second (bytes_of task.now.files.items)) task.now) }
 {
     let files = task.files.as_slice();
     let (hierarchy, trace) = (file(files, 0), file(files, 1));
@@ -274,13 +274,13 @@ fn ran_on_files<R: Threads + Wait + Clock + Files + Opens + Eprint + Sync>(
         (instance_under accepted.now.layout accepted.now.assigned accepted.now.trace)
         task.now.words.workers task.now.words.tick (string_bytes ran.told.measured)
         (string_bytes ran.told.text) ran.told.drift) }
-    ensures refused { IfErr result (IsOfRun (length accepted.now.trace.messages)) }
+    ensures refused { IfErr result (IsOfTask accepted.now.layout accepted.now.trace task.now) }
 {
     let words = &task.words;
     let places = Places::of(alloc, &accepted.layout, words.cell)?;
     let site = site_of(task);
     let opened = rt.open_run(alloc, &site, &accepted.layout, &accepted.trace, &places);
-    let Opened { store, part } = match opened {
+    let Opened { store, part, .. } = match opened {
         Ok(opened) => opened,
         Err(error) => return Err(error),
     };
@@ -301,7 +301,9 @@ fn ran_on_files<R: Threads + Wait + Clock + Files + Opens + Eprint + Sync>(
 }
 
 /// Where a run reads and writes.
-fn site_of<'a>(task: &'a RunTask) -> Site<'a> {
+fn site_of<'a>(task: &'a RunTask) -> Site<'a>
+    ensures { told_of result ≡ told_by task.now }
+{
     Site {
         folder: task.words.folder.as_str(),
         over: task.words.over,

@@ -7,3 +7,4 @@ mod Listing
 mod Ones
 mod Calling
 mod Again
+mod Filing

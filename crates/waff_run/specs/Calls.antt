@@ -1,5 +1,5 @@
 -- Which operations of a message are one call on files.
-use Rattle.std.specs.Prelude.{◌≡◌, ℕ, ◌+◌, ◌*◌, ◌<◌, ◌≤◌, List, length, Some, slice_get}
+use Rattle.std.specs.Prelude.{◌≡◌, ℕ, ◌+◌, ◌*◌, ◌/◌, ◌<◌, ◌≤◌, max, List, length, Some, slice_get}
 use Rattle.waff_model.specs.declared.cell.Cell.{Cell}
 use Rattle.waff_model.specs.declared.op.Op.{Op}
 use Rattle.waff_model.specs.declared.op.Op.TheVariants.{Add, Copy, Read, Set, Swap}
@@ -39,3 +39,7 @@ pub record AreOneCall (placing : Placing) (ops : List Op) (from count : ℕ) : T
   pub within : from + count ≤ length ops
   pub each : (k : ℕ) → 0 < k → k < count → GoesWith placing ops from k
   pub most : ¬ GoesWith placing ops from count
+
+-- how many cells of so many bytes a part of a call has at most: those of 1,048,576 bytes, but one at least
+abbrev pub part_cells : ℕ → ℕ
+part_cells bytes = max (1048576 / max bytes 1) 1

@@ -1,4 +1,5 @@
 pub mod Faults
+pub mod Files
 pub mod Texts
 pub mod Places
 pub mod PlaceLaws

@@ -1,10 +1,20 @@
 //! How many operations of a message are one call on files: a range is one.
 
 ghost use Rattle.std.specs.Prelude.{◌≡◌, ◌<◌, ◌↔◌, IsTrue, length};
-ghost use Rattle.waff_run.specs.Calls.{AreAlike, AreOneCall, first_cell};
+ghost use Rattle.waff_run.specs.Calls.{AreAlike, AreOneCall, first_cell, part_cells};
 
 use crate::places::Places;
 use waff_model::{Cell, Op, Ops, Trace};
+
+/// A call that is longer than so many bytes is made in parts.
+const PART: u64 = 1_048_576;
+
+/// How many cells of so many bytes a part of a call has at most.
+pub(crate) fn cells_of_part(bytes: u64) -> u64
+    ensures { result ≡ part_cells bytes }
+{
+    (PART / bytes.max(1)).max(1)
+}
 
 /// How many operations from this one on are one call: reads, or sets of one number, of cells that lie side by
 /// side in one file.
@@ -28,7 +38,7 @@ pub(crate) fn call_length(places: &Places, ops: &Ops, from: usize) -> usize
 }
 
 /// The cell that an operation names first.
-fn first_cell(op: Op) -> Cell
+pub(crate) fn first_cell(op: Op) -> Cell
     ensures { result ≡ first_cell op }
 {
     match op {

@@ -1,6 +1,7 @@
 //! Why a run ended before its end, and told nothing.
-ghost use Rattle.std.specs.Prelude.{ℕ};
-ghost use Rattle.waff_run.specs.Faults.{IsOfRun};
+ghost use Rattle.std.specs.Prelude.{◌≡◌};
+ghost use Rattle.waff_inputs.specs.declared.fault.ToolError.TheVariants as tool;
+ghost use Rattle.waff_run.specs.declared.fault.RunError.TheVariants as run;
 
 use crate::store::StoreFault;
 use std::alloc::AllocError;
@@ -66,7 +67,7 @@ pub enum RunError {
 }
 
 impl From<AllocError> for RunError {
-    ghost from_gives = { λ _ error. (messages : ℕ) → IsOfRun messages error };
+    ghost from_gives = { λ _ error. error ≡ run.Tool tool.Memory };
 
     fn from(_error: AllocError) -> RunError {
         RunError::Tool(ToolError::Memory)

@@ -1,6 +1,6 @@
 //! What holds of the places of cells and of what is listed of them. Each law is a function that does nothing and whose contract is the law.
 
-ghost use Rattle.std.specs.Prelude.{ℕ, List};
+ghost use Rattle.std.specs.Prelude.{ℕ, List, Option};
 ghost use Rattle.waff_model.specs.Layout.{Hierarchy};
 ghost use Rattle.waff_model.specs.Unique.{AtMostOne};
 ghost use Rattle.waff_model.specs.declared.cell.Cell.{Cell};
@@ -61,5 +61,5 @@ pub fn call_is_one()
 
 /// The first of files that is another of them too is one, where there is one.
 pub fn first_of_two_is_one()
-    ensures { (files : List Identity) → AtMostOne (IsFirstOfTwo files) }
+    ensures { (files : List (Option Identity)) → AtMostOne (IsFirstOfTwo files) }
 {}

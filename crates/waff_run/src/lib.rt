@@ -21,10 +21,11 @@
 //! (`FilesHaveOneOwner`), so messages that may run at once have no file in common
 //! (`FilesAreApart`). Calls of the crate's own promise to which length a file is brought at least
 //! (`AreEnds`), which cells are filled (`ListsSpots`), which files are synced (`ListsOnce`), and
-//! which file of a run is told as another of them too (`IsFirstOfTwo`). An error of a run tells
-//! nothing of its files but that memory was refused, a file could not be written, a message of the
-//! trace ran for too long, not all workers could be started, or the folder, a file in it or the plan
-//! is at fault (`IsOfRun`). That a call returns is not promised, nor that the turns tell what was
+//! which file of a run is told as another of them too (`IsFirstOfTwo`). An error tells why the files
+//! were not opened (`IsOfOpening`), or why what was begun did not come to its end (`IsOfRunning`):
+//! which message, how many workers, and which file, one in which the messages name a cell. Where
+//! files were opened, no two are one by what was found of them (`AreTold`). That a call returns is
+//! not promised, nor that what is found is what is there, nor that the turns tell what was
 //! done to the store. `tests/runs/run` shows the rest.
 #![tactic(auto)]
 

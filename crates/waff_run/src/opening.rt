@@ -3,18 +3,23 @@
 //! The refusals come in this order: the folder is none; two of the files are one; a file of cells, in the order of spaces
 //! and places; the file of the measured trace; the mark. Before that of two files that are one nothing is made or written.
 
-ghost use Rattle.std.specs.Prelude.{◌≡◌, ℕ, IfErr};
-ghost use Rattle.waff_run.specs.Faults.{IsOfRun};
-ghost use Rattle.waff_run.specs.Opening.{how_opened};
+ghost use Rattle.std.specs.Prelude.{◌≡◌, ◌⊎◌, ◌+◌, false, true, IfErr, IfOk, None, [], ◌∷◌, is_some, length, string_bytes};
+ghost use Rattle.waff_inputs.specs.declared.fault.ToolError.TheVariants as tool;
+ghost use Rattle.waff_run.specs.Faults.{AreTold, IsOfOpening};
+ghost use Rattle.waff_run.specs.Files.{AreCellFiles, file_name, numbers_of, others_of};
+ghost use Rattle.waff_run.specs.Named.{cells_named};
+ghost use Rattle.waff_run.specs.Opening.{IsOfCell, IsOfTelling, how_opened, job_of, told_of};
+ghost use Rattle.waff_run.specs.Same.{IsFirstOfTwo};
+ghost use Rattle.waff_run.specs.declared.fault.RunError.TheVariants as run;
 
 use crate::fault::RunError;
 use crate::part::Part;
 use crate::places::Places;
 use crate::same::{Identity, first_of_two};
 use crate::spots::ends;
-use crate::store::{Folder, file_name};
+use crate::store::{Folder, OwnFile, file_name};
 use std::alloc::{AllocError, Global};
-use std::fs::{File, OpenOptions};
+use std::fs::OpenOptions;
 use std::os::unix::fs::MetadataExt;
 use std::path::Path;
 use std::{fs, io};
@@ -40,6 +45,9 @@ pub struct Opened {
     pub store: Folder,
     /// The measured trace, where it is wanted.
     pub part: Option<Part>,
+    /// What was found of the files of the run before one was made or written: of the files of cells in which the trace
+    /// names some, in their order, and then of the others; none of a file that could not be told.
+    pub found: Vec<Option<Identity>>,
 }
 
 /// What opens the files of a run.
@@ -54,7 +62,10 @@ pub trait Opens {
         trace: &Trace,
         places: &Places,
     ) -> Result<Opened, RunError>
-        ensures { IfErr result (λ error. (messages : ℕ) → IsOfRun messages error) };
+        ensures told { IfOk result (λ opened.
+            AreTold (job_of layout.now places.now trace.now) (others_of site.now) opened.found.items) }
+        ensures refused { IfErr result
+            (IsOfOpening (job_of layout.now places.now trace.now) (told_of site.now)) };
 }
 
 impl Opens for HostRuntime {
@@ -111,7 +122,10 @@ fn open_run(
     trace: &Trace,
     places: &Places,
 ) -> Result<Opened, RunError>
-    ensures { IfErr result (λ error. (messages : ℕ) → IsOfRun messages error) }
+    ensures told { IfOk result (λ opened.
+        AreTold (job_of layout.now places.now trace.now) (others_of site.now) opened.found.items) }
+    ensures refused { IfErr result
+        (IsOfOpening (job_of layout.now places.now trace.now) (told_of site.now)) }
 {
     match fs::metadata(rt, site.folder) {
         Ok(found) if found.is_dir() => {}
@@ -119,7 +133,7 @@ fn open_run(
     }
     let files = cell_files(alloc, site.folder, layout, trace, places)?;
     let mark = path_in(alloc, site.folder, MARK)?;
-    refuse_same(
+    let found = found_apart(
         rt,
         alloc,
         site,
@@ -139,7 +153,7 @@ fn open_run(
         }
         return Err(RunError::File(MARK.to_string(alloc)?));
     }
-    Ok(Opened { store, part })
+    Ok(Opened { store, part, found })
 }
 
 /// The path of a file in a folder.
@@ -154,7 +168,10 @@ fn cell_files(
     layout: &Layout,
     trace: &Trace,
     places: &Places,
-) -> Result<Vec<CellFile>, AllocError> {
+) -> Result<Vec<CellFile>, AllocError>
+    ensures { IfOk result (λ files. AreCellFiles places.now (cells_named trace.now.messages)
+        (numbers_of files.items)) }
+{
     let ends = ends(alloc, trace, places)?;
     let mut files = Vec::new(alloc);
     for number in 0..ends.len() {
@@ -172,8 +189,8 @@ fn cell_files(
     Ok(files)
 }
 
-/// Refuses a run of which two files are one.
-fn refuse_same(
+/// What is found of the files of a run, where none is another one.
+fn found_apart(
     rt: &HostRuntime,
     alloc: Global,
     site: &Site<'_>,
@@ -181,91 +198,89 @@ fn refuse_same(
     places: &Places,
     files: &[CellFile],
     mark: &str,
-) -> Result<(), RunError>
-    ensures { IfErr result (λ error. (messages : ℕ) → IsOfRun messages error) }
+) -> Result<Vec<Option<Identity>>, RunError>
+    ensures count { IfOk result (λ found.
+        length found.items ≡ length files.now + others_of site.now) }
+    ensures none { IfOk result (λ found. IsFirstOfTwo found.items None) }
+    ensures refused { IfErr result (IsOfTelling layout.now.spaces places.now
+        (numbers_of files.now) (others_of site.now)) }
 {
-    let all = identities(rt, alloc, site, files, mark)?;
-    match first_of_two(all.as_slice()) {
+    let found = identities(rt, alloc, site, files, mark)?;
+    match first_of_two(alloc, found.as_slice())? {
         Some(at) if at < files.len() => {
             let name = file_name(alloc, layout, places, files[at].number)?;
             Err(RunError::Same(name))
         }
         Some(_) => Err(RunError::Same("trace".to_string(alloc)?)),
-        None => Ok(()),
+        None => Ok(found),
     }
 }
 
-/// The identities of the files of cells, and behind them those of all others.
+/// The identities of the files of cells, and behind them those of all others; none of a file that cannot be told.
 fn identities(
     rt: &HostRuntime,
     alloc: Global,
     site: &Site<'_>,
     files: &[CellFile],
     mark: &str,
-) -> Result<Vec<Identity>, AllocError> {
+) -> Result<Vec<Option<Identity>>, AllocError>
+    ensures { IfOk result (λ all. length all.items ≡ length files.now + others_of site.now) }
+{
     let mut all = Vec::new(alloc);
     for file in files {
-        push_identity(rt, alloc, file.path.as_str(), &mut all)?;
+        all.push(identity(rt, alloc, file.path.as_str())?)?;
     }
-    push_identity(rt, alloc, mark, &mut all)?;
+    all.push(identity(rt, alloc, mark)?)?;
     for input in site.inputs {
-        let path = if input.as_str() == "-" {
-            "/dev/stdin"
-        } else {
-            input.as_str()
+        let path = match input.as_str() {
+            "-" => "/dev/stdin",
+            path => path,
         };
-        push_identity(rt, alloc, path, &mut all)?;
+        all.push(identity(rt, alloc, path)?)?;
     }
     if let Some(measured) = site.measured {
-        push_identity(rt, alloc, measured, &mut all)?;
         let part = Part::path_of(alloc, measured)?;
-        push_identity(rt, alloc, part.as_str(), &mut all)?;
+        all.push(identity(rt, alloc, measured)?)?;
+        all.push(identity(rt, alloc, part.as_str())?)?;
     }
     Ok(all)
 }
 
-/// Appends the identity of the file of this name, where it can be told.
-fn push_identity(
-    rt: &HostRuntime,
-    alloc: Global,
-    path: &str,
-    all: &mut Vec<Identity>,
-) -> Result<(), AllocError> {
+/// The identity of the file of this name, where it can be told.
+fn identity(rt: &HostRuntime, alloc: Global, path: &str) -> Result<Option<Identity>, AllocError> {
     match fs::metadata(rt, path) {
-        Ok(found) => all.push(Identity {
+        Ok(found) => Ok(Some(Identity {
             device: found.dev(),
             inode: found.ino(),
             name: String::new(alloc),
-        })?,
+        })),
         Err(error) if error.kind() == io::ErrorKind::NotFound => {
-            push_identity_in_folder(rt, alloc, path, all)?;
+            identity_in_folder(rt, alloc, path)
         }
-        Err(_) => {}
+        Err(_) => Ok(None),
     }
-    Ok(())
 }
 
-/// Appends the identity of the file of this name, which is not there, where its folder is.
-fn push_identity_in_folder(
+/// The identity of the file of this name, which is not there, where its folder is.
+fn identity_in_folder(
     rt: &HostRuntime,
     alloc: Global,
     path: &str,
-    all: &mut Vec<Identity>,
-) -> Result<(), AllocError> {
+) -> Result<Option<Identity>, AllocError> {
     let path = Path::new(path);
     let (Some(folder), Some(name)) = (path.parent(), path.file_name()) else {
-        return Ok(());
+        return Ok(None);
     };
     let folder = folder.as_str();
     let folder = if folder.is_empty() { "." } else { folder };
-    if let Ok(found) = fs::metadata(rt, folder) {
-        all.push(Identity {
+    match fs::metadata(rt, folder) {
+        Ok(found) => Ok(Some(Identity {
             device: found.dev(),
             inode: found.ino(),
             name: name.to_string(alloc)?,
-        })?;
+        })),
+        Err(_) => Ok(None),
     }
-    Ok(())
 }
 
 /// How a file of cells is opened.
@@ -303,18 +318,26 @@ fn open_cells(
     files: &[CellFile],
     is_own: bool,
 ) -> Result<Folder, RunError>
-    ensures { IfErr result (λ error. (messages : ℕ) → IsOfRun messages error) }
+    ensures { IfErr result
+        (IsOfCell layout.now.spaces places.now (numbers_of files.now) is_own) }
 {
     let mut opened = Vec::new(alloc);
-    for file in files {
-        let cells = open_cell(rt, alloc, layout, places, file, is_own)?;
-        put_at(&mut opened, file.number, cells)?;
+    for at in 0..files.len() {
+        let file = &files[at];
+        match open_cell(rt, alloc, layout, places, file, is_own) {
+            Ok(cells) => put_at(&mut opened, file.number, cells)?,
+            Err(error) => return Err(error),
+        }
     }
     Ok(Folder::of(opened))
 }
 
 /// Puts a file at its number, behind those before it, where the trace names no cell in those between.
-fn put_at(opened: &mut Vec<Option<File>>, number: usize, file: File) -> Result<(), AllocError> {
+fn put_at(
+    opened: &mut Vec<Option<OwnFile>>,
+    number: usize,
+    file: OwnFile,
+) -> Result<(), AllocError> {
     for _ in opened.len()..number {
         if opened.push(None).is_err() {
             return Err(AllocError);
@@ -334,8 +357,9 @@ fn open_cell(
     places: &Places,
     file: &CellFile,
     is_own: bool,
-) -> Result<File, RunError>
-    ensures { IfErr result (λ error. (messages : ℕ) → IsOfRun messages error) }
+) -> Result<OwnFile, RunError>
+    ensures { IfErr result
+        (IsOfCell layout.now.spaces places.now (file.now.number ∷ []) is_own) }
 {
     let path = file.path.as_str();
     let how = how_opened(Entry::of(rt, path), is_own);
@@ -352,7 +376,7 @@ fn open_cell(
 }
 
 /// Opens and locks a regular file, of this many bytes at least.
-fn open_long(rt: &HostRuntime, path: &str, how: How, bytes: u64) -> io::Result<File> {
+fn open_long(rt: &HostRuntime, path: &str, how: How, bytes: u64) -> io::Result<OwnFile> {
     let mut options = OpenOptions::new();
     options.read(true);
     options.write(true);
@@ -363,14 +387,10 @@ fn open_long(rt: &HostRuntime, path: &str, how: How, bytes: u64) -> io::Result<F
         How::Take => {}
         How::Foreign | How::Never => return Err(refused()),
     }
-    let file = options.open(rt, path)?;
-    if file.try_lock().is_err() {
+    let Some(file) = OwnFile::of(options.open(rt, path)?) else {
         return Err(refused());
-    }
-    let long = file.metadata()?.len();
-    if long < bytes {
-        file.set_len(bytes)?;
-    }
+    };
+    file.lengthen(bytes)?;
     Ok(file)
 }
 
@@ -381,7 +401,9 @@ fn refused() -> io::Error {
 
 /// Makes the file of the measured trace, where it is wanted.
 fn part_of(rt: &HostRuntime, alloc: Global, site: &Site<'_>) -> Result<Option<Part>, RunError>
-    ensures { IfErr result (λ error. (messages : ℕ) → IsOfRun messages error) }
+    ensures wanted { IfErr result (λ _. is_some site.now.measured ≡ true) }
+    ensures fault { IfErr result (λ error.
+        (error ≡ run.Tool tool.Memory) ⊎ (error ≡ run.Tool tool.Write)) }
 {
     let Some(name) = site.measured else {
         return Ok(None);

@@ -1,6 +1,9 @@
 //! The operations of a message, done on a store.
 
-use crate::calls::call_length;
+ghost use Rattle.std.specs.Prelude.{◌≡◌, ◌+◌, ◌*◌, ◌<◌, ◌≤◌, IfOk, length, min};
+ghost use Rattle.waff_run.specs.Calls.{part_cells};
+
+use crate::calls::{call_length, cells_of_part, first_cell};
 use crate::fault::Stopped;
 use crate::places::{Places, Spot};
 use crate::store::{Store, StoreFault};
@@ -18,14 +21,26 @@ pub struct Room {
 }
 
 impl Room {
-    /// Room for calls of so many cells.
-    pub fn of(alloc: Global, places: &Places, cells: usize) -> Result<Room, AllocError> {
+    /// Room for calls of so many cells, or for the parts of longer ones.
+    pub fn of(alloc: Global, places: &Places, cells: usize) -> Result<Room, AllocError>
+        ensures one { IfOk result (λ room. length room.one.items
+            ≡ places.now.bytes * min cells (part_cells places.now.bytes)) }
+        ensures two { IfOk result (λ room. length room.two.items ≡ places.now.bytes) }
+    {
         let bytes = places.bytes() as usize;
+        let cells = cells.min(cells_of_part(places.bytes()) as usize);
         Ok(Room {
             one: vec![in alloc; 0; bytes.saturating_mul(cells)]?,
             two: vec![in alloc; 0; bytes]?,
             files: Vec::new(alloc),
         })
+    }
+
+    /// How many cells of so many bytes there is room for, one at least.
+    fn cells(&self, bytes: u64) -> usize
+        ensures { 0 < result }
+    {
+        (self.one.len() as u64 / bytes.max(1)).max(1) as usize
     }
 }
 
@@ -40,7 +55,7 @@ pub fn perform<S: Store>(
     let mut at = 0;
     while at < ops.len() {
         let count = call_length(places, ops, at);
-        do_call(store, places, ops.get(at), count, room)?;
+        do_call(store, places, ops, at, count, room)?;
         at += count;
     }
     sync(store, places, ops, syncs, &mut room.files)
@@ -64,8 +79,30 @@ fn sync<S: Store>(
     Ok(())
 }
 
-/// Does an operation, on this many cells that lie side by side.
+/// Does so many operations from one on, which are one call, in as many parts as there has to be, in order.
 fn do_call<S: Store>(
+    store: &S,
+    places: &Places,
+    ops: &Ops,
+    from: usize,
+    count: usize,
+    room: &mut Room,
+) -> Result<(), StoreFault>
+    requires { from + count ≤ length ops.now }
+{
+    let _all = ops.len();
+    let most = room.cells(places.bytes());
+    let mut done = 0;
+    while done < count {
+        let part = most.min(count - done);
+        do_part(store, places, ops.get(from + done), part, room)?;
+        done += part;
+    }
+    Ok(())
+}
+
+/// Does an operation, on this many cells that lie side by side. What there is no room for is a fault of its file.
+fn do_part<S: Store>(
     store: &S,
     places: &Places,
     op: Op,
@@ -75,7 +112,8 @@ fn do_call<S: Store>(
     let long = (places.bytes() as usize).saturating_mul(count);
     let Room { one, two, .. } = room;
     if long > one.len() {
-        return Err(StoreFault { file: 0 });
+        let file = places.spot(first_cell(op)).file;
+        return Err(StoreFault { file });
     }
     let one = &mut one[..long];
     match op {

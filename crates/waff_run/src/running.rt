@@ -1,10 +1,12 @@
 //! A run, from the accepted files to the two texts.
 
-ghost use Rattle.std.specs.Prelude.{◌≤◌, ℕ, IfErr, IfOk, length, string_bytes};
+ghost use Rattle.std.specs.Prelude.{◌≤◌, IfErr, IfOk, IfSome, string_bytes};
 ghost use Rattle.waff_inputs.specs.Inputs.{instance_under};
 ghost use Rattle.waff_line.specs.Turns.{AreRunTurns, course_by};
 ghost use Rattle.waff_plan.specs.Bound.{IsWorkers};
-ghost use Rattle.waff_run.specs.Faults.{IsOfRun};
+ghost use Rattle.waff_run.specs.Faults.{IsOfRunning};
+ghost use Rattle.waff_run.specs.Files.{NamesFile};
+ghost use Rattle.waff_run.specs.Opening.{job_of};
 ghost use Rattle.waff_run.specs.Texts.{TellRun};
 
 use crate::calls::longest_call;
@@ -12,7 +14,7 @@ use crate::fault::{RunError, Stopped};
 use crate::pace::Pace;
 use crate::perform::{Room, fill};
 use crate::places::Places;
-use crate::spots::spots;
+use crate::spots::{ends, spots};
 use crate::store::{Store, file_name};
 use crate::syncing::Syncs;
 use crate::workers::run;
@@ -55,7 +57,8 @@ pub fn run_on<R: Threads + Wait + Clock + Eprint + Sync, S: Store + Sync>(
     ensures told { IfOk result (λ ran. TellRun hierarchy.now
         (instance_under accepted.now.layout accepted.now.assigned accepted.now.trace)
         settings.now.pace.workers settings.now.pace.tick (string_bytes ran.measured) (string_bytes ran.text) ran.drift) }
-    ensures refused { IfErr result (IsOfRun (length accepted.now.trace.messages)) }
+    ensures refused { IfErr result (IsOfRunning
+        (job_of accepted.now.layout places.now accepted.now.trace) settings.now.pace.workers) }
 {
     let turns = turns_of(rt, alloc, accepted, store, places, settings)?;
     let run = RunTurns {
@@ -68,7 +71,10 @@ pub fn run_on<R: Threads + Wait + Clock + Eprint + Sync, S: Store + Sync>(
     drop(turns);
     match ran {
         Ok(recorded) => Ok(recorded),
-        Err(error) => Err(fault_of(alloc, accepted, places, Stopped::from(error))),
+        Err(error) => {
+            let workers = settings.pace.workers;
+            Err(fault_of(alloc, accepted, places, workers, Stopped::from(error)))
+        }
     }
 }
 
@@ -84,11 +90,13 @@ fn turns_of<R: Threads + Wait + Clock + Eprint + Sync, S: Store + Sync>(
     requires workers { IsWorkers settings.now.pace.workers }
     ensures ran { IfOk result (λ turns. AreRunTurns (course_by (instance_under accepted.now.layout
         accepted.now.assigned accepted.now.trace) settings.now.pace.workers settings.now.pace.tick) turns.items) }
-    ensures refused { IfErr result (IsOfRun (length accepted.now.trace.messages)) }
+    ensures refused { IfErr result (IsOfRunning
+        (job_of accepted.now.layout places.now accepted.now.trace) settings.now.pace.workers) }
 {
+    let workers = settings.pace.workers;
     let longest = longest_call(&accepted.trace, places);
     if settings.fill {
-        fill_all(alloc, accepted, store, places)?;
+        fill_all(alloc, accepted, store, places, workers)?;
     }
     let syncs = syncs_of(alloc, &accepted.trace, settings)?;
     let case = accepted.case();
@@ -105,7 +113,7 @@ fn turns_of<R: Threads + Wait + Clock + Eprint + Sync, S: Store + Sync>(
     drop(syncs);
     match ran {
         Ok(turns) => Ok(turns),
-        Err(stopped) => Err(fault_of(alloc, accepted, places, stopped)),
+        Err(stopped) => Err(fault_of(alloc, accepted, places, workers, stopped)),
     }
 }
 
@@ -115,33 +123,63 @@ fn fill_all<S: Store>(
     accepted: &Accepted,
     store: &S,
     places: &Places,
+    workers: u32,
 ) -> Result<(), RunError>
-    ensures { IfErr result (IsOfRun (length accepted.now.trace.messages)) }
+    ensures { IfErr result (IsOfRunning
+        (job_of accepted.now.layout places.now accepted.now.trace) workers) }
 {
     let spots = spots(alloc, &accepted.trace, places)?;
     let mut room = Room::of(alloc, places, 1)?;
     match fill(store, spots.as_slice(), &mut room) {
         Ok(()) => Ok(()),
-        Err(fault) => Err(fault_of(alloc, accepted, places, Stopped::File(fault.file))),
+        Err(fault) => {
+            let stopped = Stopped::File(fault.file);
+            Err(fault_of(alloc, accepted, places, workers, stopped))
+        }
     }
 }
 
-/// Why a run that was stopped tells nothing.
-fn fault_of(alloc: Global, accepted: &Accepted, places: &Places, stopped: Stopped) -> RunError
-    ensures { IsOfRun (length accepted.now.trace.messages) result }
+/// Why a run by so many workers that was stopped tells nothing.
+fn fault_of(
+    alloc: Global,
+    accepted: &Accepted,
+    places: &Places,
+    workers: u32,
+    stopped: Stopped,
+) -> RunError
+    ensures { IsOfRunning (job_of accepted.now.layout places.now accepted.now.trace) workers result }
 {
     match stopped {
         Stopped::Memory => RunError::Tool(ToolError::Memory),
         Stopped::Tick(m) if m >= 1 && m <= accepted.trace.len() => RunError::Tick(m),
         Stopped::Tick(_) => RunError::Run,
-        Stopped::Threads(n) if n >= 1 => RunError::Threads(n),
+        Stopped::Threads(n) if n >= 1 && n < workers => RunError::Threads(n),
         Stopped::Threads(_) => RunError::Run,
         Stopped::Line => RunError::Run,
-        Stopped::File(file) => match file_name(alloc, &accepted.layout, places, file) {
-            Ok(name) => RunError::File(name),
+        Stopped::File(file) => match name_of(alloc, accepted, places, file) {
+            Ok(Some(name)) => RunError::File(name),
+            Ok(None) => RunError::Run,
             Err(_) => RunError::Tool(ToolError::Memory),
         },
     }
+}
+
+/// The name of this file, where the trace names a cell in it.
+fn name_of(
+    alloc: Global,
+    accepted: &Accepted,
+    places: &Places,
+    file: usize,
+) -> Result<Option<String>, AllocError>
+    ensures { IfOk result (λ name. IfSome name (λ name. NamesFile
+        (job_of accepted.now.layout places.now accepted.now.trace) (string_bytes name))) }
+{
+    let ends = ends(alloc, &accepted.trace, places)?;
+    if file >= ends.len() || ends[file] == 0 {
+        return Ok(None);
+    }
+    let name = file_name(alloc, &accepted.layout, places, file)?;
+    Ok(Some(name))
 }
 
 /// Which files are synced at the end of each message.

@@ -1,11 +1,13 @@
 //! Which files are one, whatever their names.
 
-ghost use Rattle.std.specs.Prelude.{◌≡◌};
-ghost use Rattle.std.specs.List.{list_any};
-ghost use Rattle.waff_run.specs.Same.{IsFirstOfTwo, is_same_file};
+ghost use Rattle.std.specs.Prelude.{IfOk};
+ghost use Rattle.waff_run.specs.Same.{IsFirstOfTwo};
+
+use std::alloc::{AllocError, Global};
+use std::collections::HashSet;
 
 /// By what a file is told apart from all others.
-#[derive(Drop)]
+#[derive(PartialEq, Eq, Hash, Drop)]
 pub struct Identity {
     /// The device on which it lies.
     pub device: u64,
@@ -15,32 +17,23 @@ pub struct Identity {
     pub name: String,
 }
 
-impl Identity {
-    /// Whether both are of one file.
-    fn is_same_file(&self, other: &Identity) -> bool
-        ensures { result ≡ is_same_file self.now other.now }
-    {
-        self.device == other.device
-            && self.inode == other.inode
-            && self.name.as_str() == other.name.as_str()
-    }
-
-    /// Whether one of these is of the same file.
-    fn is_among(&self, others: &[Identity]) -> bool
-        ensures { result ≡ list_any (is_same_file self.now) others.now }
-    {
-        others.iter().any(|other| self.is_same_file(other))
-    }
-}
-
-/// The place of the first of these files that is another of them too.
-pub fn first_of_two(files: &[Identity]) -> Option<usize>
-    ensures { IsFirstOfTwo files.now result }
+/// The place of the first of these files that is another of them too. One whose identity is not known is none of the others.
+pub(crate) fn first_of_two(
+    alloc: Global,
+    files: &[Option<Identity>],
+) -> Result<Option<usize>, AllocError>
+    ensures { IfOk result (IsFirstOfTwo files.now) }
 {
-    for at in 0..files.len() {
-        if files[at].is_among(&files[at + 1..]) {
-            return Some(at);
+    let mut behind = HashSet::new(alloc);
+    let mut first = None;
+    let mut at = files.len();
+    while at > 0 {
+        at -= 1;
+        if let Some(file) = &files[at] {
+            if !behind.insert(file)? {
+                first = Some(at);
+            }
         }
     }
-    None
+    Ok(first)
 }

@@ -1,7 +1,13 @@
 //! Where the bytes of cells are: files in a folder, or what a test has in their place.
+
+ghost use Rattle.std.specs.Prelude.{◌≡◌, IfOk, string_bytes};
+ghost use Rattle.waff_run.specs.Files.{file_name};
+ghost use Rattle.waff_run.specs.declared.store.Holder.TheVariants.{Own};
+
 use crate::places::Places;
 use std::alloc::{AllocError, Global};
 use std::fs::File;
+use std::io;
 use std::os::unix::fs::FileExt;
 use waff_model::Layout;
 
@@ -23,21 +29,68 @@ pub trait Store {
     fn sync(&self, file: usize) -> Result<(), StoreFault>;
 }
 
+/// Who holds a file.
+#[derive(Clone, Copy)]
+pub(crate) enum Holder {
+    /// This run, until it is closed.
+    Own,
+    /// Another one, as far as can be told.
+    Other,
+}
+
+impl Holder {
+    /// Takes hold of the file, where nobody else holds it.
+    fn of(file: &File) -> Holder {
+        match file.try_lock() {
+            Ok(()) => Holder::Own,
+            Err(_) => Holder::Other,
+        }
+    }
+}
+
+/// A file that this run holds.
+#[derive(Drop)]
+pub(crate) struct OwnFile {
+    file: File,
+    holder: Holder,
+    ghost own: { holder ≡ Own },
+}
+
+impl OwnFile {
+    /// The file, where no other run holds it.
+    pub(crate) fn of(file: File) -> Option<OwnFile> {
+        let holder = Holder::of(&file);
+        match holder {
+            Holder::Own => Some(OwnFile { file, holder }),
+            Holder::Other => None,
+        }
+    }
+
+    /// Makes it so many bytes long, where it is shorter.
+    pub(crate) fn lengthen(&self, bytes: u64) -> io::Result<()> {
+        let long = self.file.metadata()?.len();
+        if long < bytes {
+            self.file.set_len(bytes)?;
+        }
+        Ok(())
+    }
+}
+
 /// Files of a folder, all open.
 #[derive(Drop)]
 pub struct Folder {
-    files: Vec<Option<File>>,
+    files: Vec<Option<OwnFile>>,
 }
 
 impl Folder {
     /// These files, by their numbers.
-    pub(crate) fn of(files: Vec<Option<File>>) -> Folder {
+    pub(crate) fn of(files: Vec<Option<OwnFile>>) -> Folder {
         Folder { files }
     }
 
     fn file(&self, file: usize) -> Result<&File, StoreFault> {
         match self.files.get(file) {
-            Some(Some(found)) => Ok(found),
+            Some(Some(found)) => Ok(&found.file),
             _ => Err(StoreFault { file }),
         }
     }
@@ -72,7 +125,10 @@ pub(crate) fn file_name(
     layout: &Layout,
     places: &Places,
     file: usize,
-) -> Result<String, AllocError> {
+) -> Result<String, AllocError>
+    ensures { IfOk result (λ name.
+        string_bytes name ≡ file_name layout.now.spaces places.now file) }
+{
     match places.place(file) {
         Some((space, place)) if space < layout.space_count() as usize => {
             let name = layout.space_name(space as u32);

@@ -28,8 +28,8 @@ returns-in-Ok g c =
           })))
           c.ran_on_files-ran.ensures.told;
       refused = IfErr-weaker c.ran_on_files-ran.result _ _
-          (λ error of. subst (λ h. RefusesRun h (second files) error) hierarchy
-          (subst (λ t. RefusesRun c.file-hierarchy.result.now t error) trace
-          (refuses_run c.file-hierarchy.result.now c.file-trace.result.now instance is error of)))
+          (λ error of. subst (λ h. RefusesRun h (second files) c.args.task.now error) hierarchy
+          (subst (λ t. RefusesRun c.file-hierarchy.result.now t c.args.task.now error) trace
+          (refuses_run c.file-hierarchy.result.now c.file-trace.result.now instance accepted.layout is c.in-Ok.ensures.layout c.args.task.now error of)))
           c.ran_on_files-ran.ensures.refused;
     }

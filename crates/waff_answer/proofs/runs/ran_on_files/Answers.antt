@@ -1,5 +1,9 @@
-use Rattle.std.proofs.Common.{length}
+use Rattle.waff_answer.specs.Runs.{told_by}
+use Rattle.waff_run.specs.Opening.{told_of}
+use Rattle.waff_answer.proofs.Running.{of_memory, of_opening, of_running}
 use Rattle.waff_answer.proofs.runs.ran_on_files.Goals as goal
 
 pub returns-in-Err-clause-refused : goal.returns-in-Err-clause-refused
-returns-in-Err-clause-refused g c = c.in-Err.ensures (length c.args.accepted.now.trace.messages)
+returns-in-Err-clause-refused g c =
+    of_opening c.args.accepted.now.layout c.in_ok-places.places c.args.accepted.now.trace c.args.task.now (told_of c.site_of-site.result) _
+    c.in_ok-places.ensures c.site_of-site.ensures c.in-Err.ensures

@@ -20,4 +20,4 @@ returns-in-Ok-clause-part g c =
 pub returns-in-Ok-clause-refused : goal.returns-in-Ok-clause-refused
 returns-in-Ok-clause-refused g c =
     let files = bytes_of c.args.task.now.files.items in
-    refuses_write (first files) (second files) c.write_texts-written.result c.write_texts-written.ensures.fault
+    refuses_write (first files) (second files) c.args.task.now c.write_texts-written.result c.write_texts-written.ensures.fault
