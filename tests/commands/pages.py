@@ -17,8 +17,8 @@ from transcripts import Case, cases, commands_of, pattern, read
 HERE = ROOT / "tests/commands"
 
 # No case can refuse memory, as tests/hostile/memory does, nor have a run whose workers can't be started, as tests/runs/outside does,
-# nor one that the check does not accept.
-NO_CASE = {"waff: Memory", "waff: Run", "waff: Threads 1"}
+# nor one that the check does not accept, nor one that drifts by a certain per cent, as in tests/runs/run by any.
+NO_CASE = {"waff: Memory", "waff: Run", "waff: Threads 1", "waff: Drift 12"}
 
 
 def shows(case: Case, call: str, commands: set[str], output: list[str]) -> bool:

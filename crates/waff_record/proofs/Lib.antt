@@ -1,5 +1,6 @@
 mod Alike
 mod Counted
+mod Drifting
 mod Kept
 mod Measured
 mod Pass

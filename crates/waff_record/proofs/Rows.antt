@@ -56,10 +56,12 @@ module _ (course : Course) (ticks : Work) (tick : ℕ) (turns : List Turn) (is :
 finishes_alike : (f g : ℕ → ℕ) (n : ℕ) → ((m : ℕ) → IsAmongFirst n m → f m ≡ g m) → map f (range_with_len 1 n) ≡ map g (range_with_len 1 n)
 finishes_alike f g zero same = refl
 finishes_alike f g (suc n) same =
-    map-range_with_len_more f 1 n (suc n) (omega arith)
+    let next : suc n ≡ n + 1 = omega arith in
+    ap (λ k. map f (range_with_len 1 k)) next
+    ∙ (map-range_with_len_more f 1 n (suc n) (omega arith)
     ∙ (ap (λ xs. xs ++ f (suc n) ∷ []) (finishes_alike f g n (λ m number. same m (record { from = number.from; to = omega (arith, number.to) })))
     ∙ (ap (λ x. map g (range_with_len 1 n) ++ x ∷ []) (same (suc n) (record { from = omega arith; to = omega arith }))
-    ∙ sym (map-range_with_len_more g 1 n (suc n) (omega arith))))
+    ∙ (sym (map-range_with_len_more g 1 n (suc n) (omega arith)) ∙ sym (ap (λ k. map g (range_with_len 1 k)) next)))))
 
 -- the course of a run
 module _ (run : RunTurns) (plan : Timetable) (ran : HasRun run) (told : IsToldOf run plan) (earlier : FollowsEarlier (work_in plan)) where

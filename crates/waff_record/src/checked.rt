@@ -103,7 +103,7 @@ fn try_plan<R: Threads + Sync>(
         Ok(given) => given,
         Err(error) => return Err(refused_plan(error)),
     };
-    let kept = is_plan_of(rt, alloc, told, case, &given);
+    let kept = is_plan_of(rt, alloc, told, case, &given, drift);
     drop(given);
     match kept {
         Ok(true) => Ok(()),
@@ -119,8 +119,12 @@ fn is_plan_of<R: Threads + Sync>(
     told: &ToldRun<'_>,
     case: &Case<'_>,
     given: &GivenPlan,
+    drift: Option<u128>,
 ) -> Result<bool, AllocError>
     requires told { IsToldRun told.now }
+    requires drift { drift ≡ drift_of
+        (length_of (work_in told.now.plan.now) (starts_in told.now.plan.now) * told.now.run.tick)
+        (last_finish told.now.run.turns.now) }
     requires measured { IsMeasured told.now.run.case.trace.now case.now.trace.now }
     requires rows { length given.now.rows ≡ length case.now.trace.now.messages }
     requires version { given.now.version ≡ case.now.trace.now.version }
@@ -129,9 +133,9 @@ fn is_plan_of<R: Threads + Sync>(
     ensures told { IfOk result (λ is. OnTrue is (IsPlanOf (instance_of told.now.run.case)
         told.now.run.workers told.now.run.tick told.now.run.turns.now
         (claim_of (instance_of case.now) given.now))) }
-    ensures length { IfOk result (λ is. OnTrue is
-        (length_in (claim_of (instance_of case.now) given.now)
-        ≡ length_of (work_in told.now.plan.now) (starts_in told.now.plan.now))) }
+    ensures drifts { IfOk result (λ is. OnTrue is (drift ≡ drift_of
+        (length_in (claim_of (instance_of case.now) given.now) * told.now.run.tick)
+        (last_finish told.now.run.turns.now))) }
 {
     let _messages = told.plan.len();
     if !tells_rows(given, told) {

@@ -41,7 +41,7 @@ pub struct Tally {
     /// The median of how late messages began, in nanoseconds.
     pub late: u64,
     /// How many messages were shorter than a tick.
-    pub short: u32,
+    pub short: usize,
 }
 
 /// What is told of a run of the messages of these files, in ticks.

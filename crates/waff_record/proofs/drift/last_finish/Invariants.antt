@@ -1,6 +1,6 @@
-use Rattle.std.proofs.Common.{◌≡◌, map, take}
-use Rattle.waff_plan.specs.Work.{greatest}
+use Rattle.std.proofs.Common.{◌≡◌, take}
+use Rattle.waff_record.specs.Drift.{last_finish}
 use Rattle.waff_record.proofs.drift.last_finish.Given as goal
 
-abbrev pub invariant-loop-turn : goal.invariant-loop-turn
-invariant-loop-turn l = l.last ≡ greatest (map (λ turn. turn.finish) (take l.turn-index l.turns))
+abbrev pub invariant-loop-at : goal.invariant-loop-at
+invariant-loop-at l = l.last ≡ last_finish (take l.at l.turns)
