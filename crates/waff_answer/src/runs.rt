@@ -262,6 +262,7 @@ fn ran<R: Threads + Wait + Clock + Files + Opens + Eprint + Sync>(
 }
 
 /// Opens the files of cells, and runs the messages on them.
+#[tactic(auto, using(crate::proofs::Running::of_memory, crate::proofs::Running::of_running))]
 fn ran_on_files<R: Threads + Wait + Clock + Files + Opens + Eprint + Sync>(
     rt: &R,
     alloc: Global,
@@ -280,10 +281,11 @@ fn ran_on_files<R: Threads + Wait + Clock + Files + Opens + Eprint + Sync>(
     let places = Places::of(alloc, &accepted.layout, words.cell)?;
     let site = site_of(task);
     let opened = rt.open_run(alloc, &site, &accepted.layout, &accepted.trace, &places);
-    let Opened { store, part, .. } = match opened {
+    let Opened { store, part, found } = match opened {
         Ok(opened) => opened,
         Err(error) => return Err(error),
     };
+    drop(found);
     let settings = settings_of(task);
     let ran = run_on(
         rt, alloc, accepted, hierarchy, trace, &store, &places, &settings,
