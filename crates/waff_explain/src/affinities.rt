@@ -1,11 +1,13 @@
 //! A tree of affinities that is refused.
 
 use crate::document::{push_row, rows, text_at, text_of};
+use crate::fields::{push_no_name, push_too_many};
 use crate::named::Named;
+use crate::say;
+use crate::words::Words;
 use toml::Value;
 use waff_model::limits::MAX_AFFINITIES;
 use waff_model::{AffinityId, TreeError, is_name};
-use waff_say::{Words, push_no_name, push_too_many, say};
 
 /// Appends which affinity is refused first, what was found and what is wanted.
 pub(crate) fn push_no_tree(words: &mut Words, document: &Value, error: TreeError) {

@@ -1,8 +1,9 @@
 //! A document of TOML that is of another shape than a hierarchy.
 
+use crate::say;
+use crate::words::Words;
 use toml::Value;
 use waff_read::Key;
-use waff_say::{Words, say};
 
 /// The tables of the array at a key.
 pub(crate) fn rows<'a>(value: &'a Value, key: &str) -> &'a [Value] {

@@ -1,15 +1,17 @@
 //! A hierarchy that is refused.
 
 ghost use Rattle.std.specs.Prelude.{IfOk, string_bytes};
-ghost use Rattle.waff_say.specs.Lines.{AreHeadedLines};
+ghost use Rattle.waff_explain.specs.Lines.{AreHeadedLines};
 
 use crate::affinities::{push_no_tree, push_third_level};
 use crate::document::{push_no_key, push_no_model};
 use crate::layouts::push_no_layout;
+use crate::say;
+use crate::walk::feeds;
+use crate::words::Words;
 use std::alloc::{AllocError, Global};
 use toml::Value;
 use waff_read::HierError;
-use waff_say::{Words, feeds, say};
 
 /// Where the fault is for which the hierarchy is refused, what was found and what is wanted.
 pub fn hierarchy_words(alloc: Global, bytes: &[u8], fault: HierError) -> Result<String, AllocError>

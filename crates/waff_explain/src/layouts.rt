@@ -1,12 +1,14 @@
 //! Spaces and maps that are refused.
 
 use crate::document::{push_row, rows, text_at, text_of};
+use crate::fields::push_no_name;
 use crate::named::Named;
+use crate::say;
+use crate::words::Words;
 use toml::Value;
 use waff_model::limits::{MAX_CELLS, MAX_OWNERS, MAX_SPACES};
 use waff_model::{Format, LayoutError, is_name};
 use waff_read::read_format;
-use waff_say::{Words, push_no_name, say};
 
 /// Appends which space or map is refused, what was found and what is wanted.
 pub(crate) fn push_no_layout(words: &mut Words, document: &Value, error: LayoutError) {

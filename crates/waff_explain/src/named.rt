@@ -1,9 +1,9 @@
 //! The tables of an array, found by the text that each has at a key.
 
 use crate::document::text_at;
+use crate::words::Words;
 use std::collections::HashMap;
 use toml::Value;
-use waff_say::Words;
 
 /// For each text at the key, the first table that has it.
 #[derive(Drop)]

@@ -2,13 +2,14 @@
 //! those that look as if they told which format it is.
 
 ghost use Rattle.std.specs.Prelude.{IfOk, string_bytes};
-ghost use Rattle.waff_say.specs.Lines.{AreHeadedLines};
+ghost use Rattle.waff_explain.specs.Lines.{AreHeadedLines};
 
 use crate::document::rows;
+use crate::say;
+use crate::words::Words;
 use std::alloc::{AllocError, Global};
 use strsim::osa_distance;
 use toml::Value;
-use waff_say::{Words, say};
 
 /// A line for each key of the format that a table of the hierarchy nearly has: what stands in the
 /// first such table; and one for a format that there is not. No line where the bytes are no TOML.

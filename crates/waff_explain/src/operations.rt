@@ -1,11 +1,12 @@
 //! What is wrong with an operation of a message.
 
+use crate::say;
+use crate::words::Words;
 use waff_model::{Layout, Version, is_name};
 use waff_parse::{are_rising, cut, number, two_parts};
 use waff_read::TraceError;
-use waff_say::{Words, say};
 
-/// What is wrong with a piece, in the order in which faults are told.
+/// What is wrong with a piece.
 #[derive(Clone, Copy)]
 pub(crate) enum Flaw<'a> {
     /// It is no operation by its words.
@@ -23,24 +24,6 @@ pub(crate) enum Flaw<'a> {
 }
 
 impl<'a> Flaw<'a> {
-    fn rank(self) -> u32 {
-        match self {
-            Flaw::Words | Flaw::Cell(_) | Flaw::Range(_) | Flaw::Number(_) => 1,
-            Flaw::Space(_) => 2,
-            Flaw::Index(..) => 3,
-        }
-    }
-
-    /// Whether this is what the fault of a trace tells.
-    pub(crate) fn is_of(self, fault: TraceError) -> bool {
-        match fault {
-            TraceError::Op { .. } => self.rank() == 1,
-            TraceError::SpaceUnknown { .. } => self.rank() == 2,
-            TraceError::IndexTooLarge { .. } => self.rank() == 3,
-            _ => false,
-        }
-    }
-
     /// Appends what was found, and what is wanted.
     pub(crate) fn push_words(self, words: &mut Words, piece: u64, op: &str) {
         let op = op.as_bytes();
@@ -90,62 +73,86 @@ fn push_early_range(words: &mut Words, op: &[u8], word: &str) {
 
 /// Whether a word is a range of cells.
 fn is_range(word: &str) -> bool {
-    match range_of(Version::V3, word) {
-        Some((name, first, last)) => is_name(name) && are_rising(first, last),
-        None => false,
+    range_of(Version::V3, word).is_some() && misspelt_cells(Version::V3, word).is_none()
+}
+
+/// What is wrong with a piece of a trace of this version for which the trace has the fault, if it is this
+/// piece. Where a space is unknown, each piece is spelled as an operation, and where a cell is behind the
+/// end of its space, each space is known.
+pub(crate) fn flaw_of<'a>(
+    layout: &Layout,
+    version: Version,
+    piece: &'a str,
+    fault: TraceError,
+) -> Option<Flaw<'a>> {
+    match fault {
+        TraceError::Op { .. } => misspelt(version, piece),
+        _ => piece.split(' ').find_map(|word| stray(layout, word, fault)),
     }
 }
 
-/// What is wrong with a piece of a trace of this version, if anything is.
-pub(crate) fn flaw_of<'a>(layout: &Layout, version: Version, piece: &'a str) -> Option<Flaw<'a>> {
+/// Why a piece is not spelled as an operation, if it is not.
+fn misspelt<'a>(version: Version, piece: &'a str) -> Option<Flaw<'a>> {
     let (verb, words) = cut(piece, ' ');
     let Some(words) = words else {
         return Some(Flaw::Words);
     };
     let (first, second) = cut(words, ' ');
-    match second {
-        None => flaw_of_one(layout, version, verb, first),
-        Some(second) => flaw_of_two(layout, version, verb, first, second),
-    }
-}
-
-fn flaw_of_one<'a>(
-    layout: &Layout,
-    version: Version,
-    verb: &str,
-    cells: &'a str,
-) -> Option<Flaw<'a>> {
-    if verb == "read" {
-        cells_flaw(layout, version, cells)
-    } else {
-        Some(Flaw::Words)
-    }
-}
-
-fn flaw_of_two<'a>(
-    layout: &Layout,
-    version: Version,
-    verb: &str,
-    first: &'a str,
-    second: &'a str,
-) -> Option<Flaw<'a>> {
-    match verb {
-        "set" | "add" => least(cells_flaw(layout, version, first), number_flaw(second)),
-        "copy" | "swap" => least(cell_flaw(layout, first), cell_flaw(layout, second)),
+    match (verb, second) {
+        ("read", None) => misspelt_cells(version, first),
+        ("set" | "add", Some(value)) => misspelt_cells(version, first).or(misspelt_number(value)),
+        ("copy" | "swap", Some(other)) => misspelt_cell(first).or(misspelt_cell(other)),
         _ => Some(Flaw::Words),
+    }
+}
+
+/// Why a word is neither a cell nor, in a trace of this version, a range, if it is not.
+fn misspelt_cells<'a>(version: Version, word: &'a str) -> Option<Flaw<'a>> {
+    let Some((name, first, last)) = range_of(version, word) else {
+        return misspelt_cell(word);
+    };
+    let is_range = is_name(name) && are_rising(first, last);
+    (!is_range).then_some(Flaw::Range(word))
+}
+
+fn misspelt_cell<'a>(word: &'a str) -> Option<Flaw<'a>> {
+    let (name, index) = cut(word, ':');
+    let is_cell = is_name(name) && number(index.unwrap_or("")).is_some();
+    (!is_cell).then_some(Flaw::Cell(word))
+}
+
+fn misspelt_number<'a>(word: &'a str) -> Option<Flaw<'a>> {
+    match number(word) {
+        Some(Some(_)) => None,
+        _ => Some(Flaw::Number(word)),
+    }
+}
+
+/// What of this fault is wrong with a word of an operation, if it is a cell or a range.
+fn stray<'a>(layout: &Layout, word: &'a str, fault: TraceError) -> Option<Flaw<'a>> {
+    let (name, indices) = cut(word, ':');
+    let (first, last) = cut(indices?, '-');
+    match (layout.find_space(name), fault) {
+        (None, TraceError::SpaceUnknown { .. }) => Some(Flaw::Space(name)),
+        (Some(space), TraceError::IndexTooLarge { .. }) => {
+            let size = layout.space_size(space);
+            match number(last.unwrap_or(first)) {
+                Some(Some(index)) if index < u64::from(size) => None,
+                _ => Some(Flaw::Index(word, size)),
+            }
+        }
+        _ => None,
     }
 }
 
 /// The indices of a word that is a range, or is to be one: they are joined by `-`.
 fn range_of(version: Version, word: &str) -> Option<(&str, &str, &str)> {
-    match version {
-        Version::V1 | Version::V2 => None,
-        Version::V3 => {
-            let (name, indices) = cut(word, ':');
-            let (first, last) = two_parts(indices?, '-')?;
-            Some((name, first, last))
-        }
+    if !version.has_clients() {
+        return None;
     }
+    let (name, indices) = cut(word, ':');
+    let (first, last) = two_parts(indices?, '-')?;
+    Some((name, first, last))
 }
 
 /// How many operations the pieces of a field stand for.
@@ -167,67 +174,5 @@ fn ops_of(version: Version, piece: &str) -> u64 {
             _ => 1,
         },
         None => 1,
-    }
-}
-
-/// What is wrong with the cells of a word: a range, or a single one.
-fn cells_flaw<'a>(layout: &Layout, version: Version, word: &'a str) -> Option<Flaw<'a>> {
-    let Some((name, first, last)) = range_of(version, word) else {
-        return cell_flaw(layout, word);
-    };
-    if !is_name(name) || !are_rising(first, last) {
-        return Some(Flaw::Range(word));
-    }
-    let Some(space) = layout.find_space(name) else {
-        return Some(Flaw::Space(name));
-    };
-    let size = layout.space_size(space);
-    match number(last) {
-        Some(Some(index)) => index_flaw(word, index, size),
-        _ => Some(Flaw::Index(word, size)),
-    }
-}
-
-fn least<'a>(one: Option<Flaw<'a>>, other: Option<Flaw<'a>>) -> Option<Flaw<'a>> {
-    match (one, other) {
-        (Some(a), Some(b)) => Some(if a.rank() <= b.rank() { a } else { b }),
-        (Some(a), None) => Some(a),
-        (None, b) => b,
-    }
-}
-
-fn number_flaw<'a>(word: &'a str) -> Option<Flaw<'a>> {
-    match number(word) {
-        Some(Some(_)) => None,
-        _ => Some(Flaw::Number(word)),
-    }
-}
-
-fn index_flaw<'a>(word: &'a str, index: u64, size: u32) -> Option<Flaw<'a>> {
-    if index < u64::from(size) {
-        None
-    } else {
-        Some(Flaw::Index(word, size))
-    }
-}
-
-fn cell_flaw<'a>(layout: &Layout, word: &'a str) -> Option<Flaw<'a>> {
-    let (name, index) = cut(word, ':');
-    let Some(index) = index else {
-        return Some(Flaw::Cell(word));
-    };
-    if !is_name(name) {
-        return Some(Flaw::Cell(word));
-    }
-    let Some(index) = number(index) else {
-        return Some(Flaw::Cell(word));
-    };
-    let Some(space) = layout.find_space(name) else {
-        return Some(Flaw::Space(name));
-    };
-    let size = layout.space_size(space);
-    match index {
-        Some(index) => index_flaw(word, index, size),
-        None => Some(Flaw::Index(word, size)),
     }
 }

@@ -1,16 +1,17 @@
 //! A trace that is refused.
 
 ghost use Rattle.std.specs.Prelude.{IfOk, string_bytes};
-ghost use Rattle.waff_say.specs.Lines.{AreHeadedLines};
+ghost use Rattle.waff_explain.specs.Lines.{AreHeadedLines};
 
+use crate::fields::{push_no_commas, push_no_name, push_no_number, push_no_text, push_too_many};
 use crate::operations::{count_ops, flaw_of};
+use crate::say;
+use crate::walk::Walk;
+use crate::words::Words;
 use std::alloc::{AllocError, Global};
 use waff_model::limits::{MAX_ALL_OPS, MAX_COST, MAX_RELEASE, MAX_THINK};
 use waff_model::{Layout, Version};
 use waff_read::TraceError;
-use waff_say::{
-    Walk, Words, push_no_commas, push_no_name, push_no_number, push_no_text, push_too_many, say,
-};
 
 /// The line that begins a table of an affinity.
 const AFFINITY: &str = "[[affinity]]";
@@ -181,9 +182,7 @@ fn push_flaw(words: &mut Words, layout: &Layout, version: Version, ops: &str, fa
     let mut number: u64 = 0;
     for piece in ops.split(';') {
         number = number.saturating_add(1);
-        if let Some(flaw) = flaw_of(layout, version, piece)
-            && flaw.is_of(fault)
-        {
+        if let Some(flaw) = flaw_of(layout, version, piece, fault) {
             return flaw.push_words(words, number, piece);
         }
     }

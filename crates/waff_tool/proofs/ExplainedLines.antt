@@ -4,9 +4,9 @@ use Rattle.std.specs.Prelude.{◌==◌, ◌&&◌, ◌||◌, slice_index}
 use Rattle.std.specs.List.{concat}
 use Rattle.std.proofs.lemmas.List.Elements.{All-append}
 use Rattle.std.proofs.lemmas.List.Folds.{concat-append}
-use Rattle.waff_say.specs.Lines.{AreHeadedLines, IsHeadedLine, head_text}
-use Rattle.waff_say.specs.declared.words.Head.{Head}
-use Rattle.waff_say.specs.declared.words.Head.TheVariants as head
+use Rattle.waff_explain.specs.Lines.{AreHeadedLines, IsHeadedLine, head_text}
+use Rattle.waff_explain.specs.declared.words.Head.{Head}
+use Rattle.waff_explain.specs.declared.words.Head.TheVariants as head
 use Rattle.waff_check.specs.declared.verdict.Verdict.TheVariants as verdict
 use Rattle.waff_inputs.specs.declared.fault.ToolError.TheVariants as tool
 use Rattle.waff_tool.specs.Explanations.{first_line, IsExplanation, IsToldBelow, LinesAreNoFirstLines}

@@ -4,7 +4,7 @@ use Rattle.std.specs.Prelude.{◌≡◌, ◌≢◌, ℕ, List, [], ◌∷◌, �
 use Rattle.waff_tool.specs.CheckText.{IsCheckText, checked_files, status_after, verdict_text}
 use Rattle.waff_inputs.specs.Inputs.{files_of, layout_of}
 use Rattle.waff_inputs.specs.Fault.{fault_line, status_of}
-use Rattle.waff_say.specs.Lines.{AreHeadedLines, IsHeadedLine}
+use Rattle.waff_explain.specs.Lines.{AreHeadedLines, IsHeadedLine}
 use Rattle.waff_tool.specs.declared.explains.Explained.{Explained}
 use Rattle.waff_tool.specs.declared.explains.Explained.TheVariants as explained
 use Rattle.waff_inputs.specs.declared.fault.ToolError.{ToolError}

@@ -8,7 +8,7 @@ ghost use Rattle.waff_read.specs.Hierarchies.{hierarchy_of};
 ghost use Rattle.waff_read.specs.Traces as traces;
 ghost use Rattle.waff_assign.specs.Case.{instance_of};
 ghost use Rattle.waff_plan_text.specs.PlanTexts as texts;
-ghost use Rattle.waff_say.specs.Lines.{AreHeadedLines};
+ghost use Rattle.waff_explain.specs.Lines.{AreHeadedLines};
 ghost use Rattle.waff_inputs.specs.Deliveries.{Delivers};
 ghost use Rattle.waff_inputs.specs.Inputs.{Accepts};
 ghost use Rattle.waff_inputs.specs.Known as known;
@@ -22,12 +22,12 @@ use std::io::Write;
 use std::thread::Threads;
 use waff_assign::{Case, assign};
 use waff_check::{GivenPlan, PlanTextError, Verdict, read_plan};
-use waff_explain::{hierarchy_words, near_words, trace_words};
-use waff_explain_plan::{plan_text_words, verdict_words};
+use waff_explain::{
+    hierarchy_words, near_words, plan_text_words, sizes_words, trace_words, verdict_words,
+};
 use waff_inputs::{ToolError, deliver, fault_status, fault_text, newest, read_trace};
 use waff_model::{Layout, Trace};
 use waff_read::{HierError, TraceError, read_hierarchy};
-use waff_say::sizes_words;
 
 /// What was explained.
 #[derive(Clone, Copy)]

@@ -9,7 +9,7 @@ use waff_parse::text_rows;
 
 /// A walk over the records of bytes, as the readers read them. It ends where memory is refused.
 #[derive(Drop)]
-pub struct Walk<'a> {
+pub(crate) struct Walk<'a> {
     bytes: &'a [u8],
     rdr: Reader<&'a [u8]>,
     row: ByteRecord,
@@ -20,7 +20,7 @@ pub struct Walk<'a> {
 
 impl<'a> Walk<'a> {
     /// A walk over the records of these bytes, in front of the first.
-    pub fn new(alloc: Global, bytes: &'a [u8]) -> Self {
+    pub(crate) fn new(alloc: Global, bytes: &'a [u8]) -> Self {
         Walk {
             bytes,
             rdr: text_rows(alloc, bytes),
@@ -31,7 +31,7 @@ impl<'a> Walk<'a> {
     }
 
     /// Goes to the next record, if there is one.
-    pub fn next(&mut self) -> bool {
+    pub(crate) fn next(&mut self) -> bool {
         if self.is_refused {
             return false;
         }
@@ -49,7 +49,7 @@ impl<'a> Walk<'a> {
     }
 
     /// Goes on to the record of this number, if there is one.
-    pub fn go_to(&mut self, at: u64) -> bool {
+    pub(crate) fn go_to(&mut self, at: u64) -> bool {
         for _ in self.at..at {
             if !self.next() {
                 return false;
@@ -59,7 +59,7 @@ impl<'a> Walk<'a> {
     }
 
     /// Goes on to the next record whose first field this is, if there is one.
-    pub fn find(&mut self, first: &str) -> bool {
+    pub(crate) fn find(&mut self, first: &str) -> bool {
         for _ in 0..u64::MAX {
             if !self.next() {
                 return false;
@@ -72,22 +72,22 @@ impl<'a> Walk<'a> {
     }
 
     /// How many fields the record has.
-    pub fn len(&self) -> usize {
+    pub(crate) fn len(&self) -> usize {
         self.row.len()
     }
 
     /// The field at a place, an empty one where there is none.
-    pub fn bytes(&self, place: usize) -> &[u8] {
+    pub(crate) fn bytes(&self, place: usize) -> &[u8] {
         self.row.get(place).unwrap_or(b"")
     }
 
     /// The field at a place, an empty one where there is none or it is no text.
-    pub fn field(&self, place: usize) -> &str {
+    pub(crate) fn field(&self, place: usize) -> &str {
         str::from_utf8(self.bytes(place)).unwrap_or("")
     }
 
     /// Ends the walk. The words keep that memory was refused, if it was.
-    pub fn end(self, words: &mut Words) {
+    pub(crate) fn end(self, words: &mut Words) {
         let is_refused = self.is_refused;
         drop(self);
         if is_refused {
@@ -97,7 +97,7 @@ impl<'a> Walk<'a> {
 
     /// Goes on to the record of this number and appends where in the file it stands, or that the
     /// file ends before it.
-    pub fn push_record(&mut self, words: &mut Words, file: &str, at: u64) {
+    pub(crate) fn push_record(&mut self, words: &mut Words, file: &str, at: u64) {
         if self.go_to(at) {
             self.push_place(words, file);
         } else {
@@ -119,7 +119,7 @@ impl<'a> Walk<'a> {
 }
 
 /// Appends where the first record behind the header stands that begins with this field.
-pub fn push_line(words: &mut Words, bytes: &[u8], first: &str) {
+pub(crate) fn push_line(words: &mut Words, bytes: &[u8], first: &str) {
     let mut walk = Walk::new(words.alloc(), bytes);
     walk.next();
     if walk.find(first) {
@@ -130,7 +130,7 @@ pub fn push_line(words: &mut Words, bytes: &[u8], first: &str) {
 
 /// The number of the first record behind the header that begins with this field, or else of the
 /// last record, and whether there is one.
-pub fn find_behind_header(words: &mut Words, bytes: &[u8], first: &str) -> (u64, bool) {
+pub(crate) fn find_behind_header(words: &mut Words, bytes: &[u8], first: &str) -> (u64, bool) {
     let mut walk = Walk::new(words.alloc(), bytes);
     walk.next();
     let is_found = walk.find(first);
@@ -173,6 +173,6 @@ fn is_end(byte: u8) -> bool {
 }
 
 /// How many line feeds there are.
-pub fn feeds(bytes: &[u8]) -> u64 {
+pub(crate) fn feeds(bytes: &[u8]) -> u64 {
     bytes.iter().filter(|byte| **byte == b'\n').count() as u64
 }

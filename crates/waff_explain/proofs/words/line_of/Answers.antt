@@ -1,6 +1,6 @@
 use Rattle.std.proofs.lemmas.Result.{IfOk-weaker}
-use Rattle.waff_say.proofs.LineLaws.{parts-free}
-use Rattle.waff_say.proofs.words.line_of.Goals as goal
+use Rattle.waff_explain.proofs.LineLaws.{parts-free}
+use Rattle.waff_explain.proofs.words.line_of.Goals as goal
 
 pub returns : goal.returns
 returns c =

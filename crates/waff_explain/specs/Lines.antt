@@ -2,8 +2,8 @@
 use Rattle.std.specs.Prelude.{◌≡◌, ◌≢◌, ℕ, List, [], ◌∷◌, ◌++◌, ◌==◌, All, count_by, codes}
 use Rattle.std.specs.List.{concat}
 use Rattle.std.specs.Fmt.{decimal}
-use Rattle.waff_say.specs.declared.words.Head.{Head}
-use Rattle.waff_say.specs.declared.words.Head.TheVariants as head
+use Rattle.waff_explain.specs.declared.words.Head.{Head}
+use Rattle.waff_explain.specs.declared.words.Head.TheVariants as head
 
 -- what a line begins with
 abbrev pub head_text : Head → List ℕ

@@ -1,17 +1,17 @@
 //! The text of a plan that is refused.
 
 ghost use Rattle.std.specs.Prelude.{IfOk, string_bytes};
-ghost use Rattle.waff_say.specs.Lines.{AreHeadedLines};
+ghost use Rattle.waff_explain.specs.Lines.{AreHeadedLines};
 
+use crate::fields::{push_no_commas, push_no_name, push_no_number, push_no_text};
+use crate::say;
+use crate::walk::{Walk, find_behind_header};
+use crate::words::Words;
 use std::alloc::{AllocError, Global};
 use waff_model::limits::{MAX_TICK, MAX_WORKERS};
 use waff_model::{Trace, Version, is_name};
 use waff_parse::{number, number_within};
 use waff_plan_text::{COLUMNS, PlanTextError};
-use waff_say::{
-    Walk, Words, find_behind_header, push_no_commas, push_no_name, push_no_number, push_no_text,
-    say,
-};
 
 /// Where the fault is for which the text of a plan of the trace is refused, what was found and what
 /// is wanted.

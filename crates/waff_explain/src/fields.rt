@@ -7,19 +7,19 @@ use std::str;
 use waff_model::limits::MAX_NAME;
 
 /// Appends that a field is no name.
-pub fn push_no_name(words: &mut Words, what: &str, field: &str) {
+pub(crate) fn push_no_name(words: &mut Words, what: &str, field: &str) {
     say!(words; Found: "the {} `{}`", what, field.as_bytes());
     say!(words; Wanted: "a name, 1 to {} of A-Z a-z 0-9 . _ -", MAX_NAME);
 }
 
 /// Appends that a field is no number within limits.
-pub fn push_no_number(words: &mut Words, what: &str, field: &str, low: u64, high: u64) {
+pub(crate) fn push_no_number(words: &mut Words, what: &str, field: &str, low: u64, high: u64) {
     say!(words; Found: "the {} `{}`", what, field.as_bytes());
     say!(words; Wanted: "a number from {} to {} without a leading zero", low, high);
 }
 
 /// Appends which field is no text.
-pub fn push_no_text(words: &mut Words, walk: &Walk<'_>) {
+pub(crate) fn push_no_text(words: &mut Words, walk: &Walk<'_>) {
     if let Some(place) = no_text(walk) {
         let number = place.saturating_add(1);
         let field = walk.bytes(place);
@@ -34,14 +34,14 @@ fn no_text(walk: &Walk<'_>) -> Option<usize> {
 }
 
 /// Appends that there are more than are allowed.
-pub fn push_too_many(words: &mut Words, what: &str, found: u64, most: usize) {
+pub(crate) fn push_too_many(words: &mut Words, what: &str, found: u64, most: usize) {
     say!(words; Found: "{} {}", found, what);
     say!(words; Wanted: "{} {} or fewer", most, what);
 }
 
 /// Appends the guess that other bytes stand in place of commas, where the record is one field that
 /// has them.
-pub fn push_no_commas(words: &mut Words, walk: &Walk<'_>) {
+pub(crate) fn push_no_commas(words: &mut Words, walk: &Walk<'_>) {
     if walk.len() != 1 {
         return;
     }

@@ -9,9 +9,9 @@ use Rattle.std.proofs.lemmas.List.Elements.{All-append, All-cons, All-head, All-
 use Rattle.std.proofs.lemmas.List.Folds.{concat-append}
 use Rattle.std.proofs.lemmas.List.Splits.{length-slice_split, slice_split_at}
 use Rattle.waff_parse.specs.Texts.{parts}
-use Rattle.waff_say.specs.Lines.{AreHeadedLines, IsHeadedLine, LinesAreOne, head_text}
-use Rattle.waff_say.specs.declared.words.Head.{Head}
-use Rattle.waff_say.specs.declared.words.Head.TheVariants as head
+use Rattle.waff_explain.specs.Lines.{AreHeadedLines, IsHeadedLine, LinesAreOne, head_text}
+use Rattle.waff_explain.specs.declared.words.Head.{Head}
+use Rattle.waff_explain.specs.declared.words.Head.TheVariants as head
 
 -- the first of some parts
 abbrev first_of : List (List ℕ) → List ℕ

@@ -1,8 +1,8 @@
 //! The lines of an explanation, which grow in number.
 
 ghost use Rattle.std.specs.Prelude.{◌≡◌, Some, IfOk, List, ℕ, length, string_bytes};
-ghost use Rattle.waff_say.specs.Lines.{IsHeadedLine, AreHeadedLines, LinesAreOne, head_text};
-ghost use Rattle.waff_say.specs.Lines.{places};
+ghost use Rattle.waff_explain.specs.Lines.{IsHeadedLine, AreHeadedLines, LinesAreOne, head_text};
+ghost use Rattle.waff_explain.specs.Lines.{places};
 
 use crate::said::Said;
 use std::alloc::{AllocError, Global};
@@ -46,11 +46,11 @@ impl fmt::Display for Head {
 #[macro_export]
 macro_rules! say {
     ($words:expr; $head:ident $(($number:expr))?: $format:literal) => {
-        $words.say($crate::Head::$head $(($number))?, $format, &[])
+        $words.say($crate::words::Head::$head $(($number))?, $format, &[])
     };
     ($words:expr; $head:ident $(($number:expr))?: $format:literal, $($value:expr),+) => {{
-        let values = [$($crate::Said::from($value)),+];
-        $words.say($crate::Head::$head $(($number))?, $format, &values);
+        let values = [$($crate::said::Said::from($value)),+];
+        $words.say($crate::words::Head::$head $(($number))?, $format, &values);
     }};
 }
 
@@ -77,7 +77,7 @@ impl<'a> fmt::Display for Sentence<'a> {
 /// Lines of an explanation. Where memory is refused they keep that, and what comes then is left
 /// out, so that only their end has to be asked.
 #[derive(Drop)]
-pub struct Words {
+pub(crate) struct Words {
     text: String,
     is_refused: bool,
 }
@@ -92,7 +92,7 @@ impl Model for Words {
 
 impl Words {
     /// No lines.
-    pub fn new(alloc: Global) -> Self {
+    pub(crate) fn new(alloc: Global) -> Self {
         Words {
             text: String::new(alloc),
             is_refused: false,
@@ -100,12 +100,12 @@ impl Words {
     }
 
     /// The allocator of the text.
-    pub fn alloc(&self) -> Global {
+    pub(crate) fn alloc(&self) -> Global {
         *self.text.allocator()
     }
 
     /// The text of the lines, unless memory was refused.
-    pub fn finish(self) -> Result<String, AllocError>
+    pub(crate) fn finish(self) -> Result<String, AllocError>
         ensures { IfOk result (λ text. AreHeadedLines (string_bytes text)) }
     {
         if self.is_refused {
@@ -115,12 +115,12 @@ impl Words {
     }
 
     /// Keeps that memory was refused for what the lines tell of.
-    pub fn refuse(&mut self) {
+    pub(crate) fn refuse(&mut self) {
         self.is_refused = true;
     }
 
     /// Appends a line with this head: the sentence of a format, with a value for each `{}`.
-    pub fn say(&mut self, head: Head, format: &str, values: &[Said<'_>])
+    pub(crate) fn say(&mut self, head: Head, format: &str, values: &[Said<'_>])
         requires filled { places format.now ≡ length values.now }
     {
         match line_of(self.alloc(), head, Sentence { format, values }) {

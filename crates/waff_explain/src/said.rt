@@ -7,7 +7,7 @@ const MOST: usize = 1000;
 
 /// A value in a sentence.
 #[derive(Clone, Copy)]
-pub enum Said<'a> {
+pub(crate) enum Said<'a> {
     /// A number.
     Number(u64),
     /// A number that may be below 0.

@@ -1,7 +1,7 @@
 //! How much there is where nothing is wrong.
 
 ghost use Rattle.std.specs.Prelude.{IfOk, string_bytes};
-ghost use Rattle.waff_say.specs.Lines.{AreHeadedLines};
+ghost use Rattle.waff_explain.specs.Lines.{AreHeadedLines};
 
 use crate::say;
 use crate::words::Words;
@@ -23,7 +23,7 @@ pub fn sizes_words(
 }
 
 /// Appends how much there is.
-pub fn push_sizes(words: &mut Words, layout: &Layout, trace: Option<&Trace>) {
+pub(crate) fn push_sizes(words: &mut Words, layout: &Layout, trace: Option<&Trace>) {
     let affinities = layout.tree().len();
     let cells = cell_count(layout);
     match trace {

@@ -1,0 +1,48 @@
+-- The messages that a verdict names are messages of the trace.
+use Rattle.std.proofs.Common.{◌≡◌, ℕ, zero, suc, ◌+◌, ◌≤◌, List, length, Bool, true, false, Option, Some, None, arith, subst}
+use Rattle.waff_model.specs.Numbers.{IsAmongFirst}
+use Rattle.waff_model.specs.Versions.{has_clients}
+use Rattle.waff_model.specs.declared.message.Message.{Message}
+use Rattle.waff_assign.specs.Order.{Relation}
+use Rattle.waff_plan.specs.Timetable.{timings_of, work_of_messages}
+use Rattle.waff_plan.specs.Timing.{some_number, timing_of}
+use Rattle.waff_plan.specs.Work.{IsNumber, Work}
+use Rattle.waff_plan.proofs.TimingLemmas.{length-timings_of}
+use Rattle.waff_check.specs.Faults.{OverlapsWhere, StartsUnissued}
+use Rattle.waff_check.specs.Verdicts.{Claim, IsFound, PairOverlaps, pairs_of_claim, start_in, version_of, work_of_claim}
+use Rattle.waff_check.specs.declared.verdict.Verdict.{Verdict}
+
+-- what is found is found of this verdict
+pub found_as : (claim : Claim) (v this : Verdict) → v ≡ this → IsFound claim v → IsFound claim this
+found_as claim v this is found = subst (λ w. IsFound claim w) is found
+
+-- a number of a message of the work of a trace is one of its messages
+pub is_named : (messages : List Message) (n : ℕ) → IsNumber (work_of_messages messages) n → IsAmongFirst (length messages) n
+is_named messages n is = record { from = is.from; to = omega (arith, is.to, length-timings_of messages) }
+
+ordered : (clients : Bool) (before : Relation) (work : Work) (start : ℕ → ℕ) (i j : ℕ)
+    → OverlapsWhere clients before work start i j → before i j
+ordered false before work start i j overlaps = overlaps.ordered
+ordered true before work start i j overlaps = overlaps.ordered
+
+-- the two messages of an overlap
+pub pair_is_named : (claim : Claim) (first second : ℕ)
+    → length claim.instance.assigned ≡ length claim.instance.trace.messages
+    → PairOverlaps claim first second
+    → IsAmongFirst (length claim.instance.trace.messages) first × IsAmongFirst (length claim.instance.trace.messages) second
+pair_is_named claim first second lengths overlaps =
+    let pair =
+    ordered (has_clients (version_of claim)) (pairs_of_claim claim) (work_of_claim claim) (start_in claim) first second overlaps in (
+      record { from = pair.from; to = omega (arith, pair.earlier, pair.to, lengths) },
+      record { from = omega (arith, pair.from, pair.earlier); to = omega (arith, pair.to, lengths) },
+    )
+
+positive : (n followed : ℕ) → some_number n ≡ Some followed → 1 ≤ n
+positive zero followed is = let bad : None ≡ Some followed = is in absurd (cc)
+positive (suc n) followed is = omega arith
+
+-- a message that starts before it is issued follows one
+pub follows_one : (messages : List Message) (start : ℕ → ℕ) (n : ℕ) → StartsUnissued (work_of_messages messages) start n
+    → 1 ≤ (timing_of (timings_of messages) n).follows
+follows_one messages start n unissued =
+    positive (timing_of (timings_of messages) n).follows unissued.followed unissued.follows

@@ -1,0 +1,186 @@
+//! A plan that was given, with what it is a plan of.
+
+ghost use Rattle.std.specs.Prelude.{◌≡◌, ◌<◌, ◌≤◌, length};
+ghost use Rattle.waff_model.specs.Numbers.{IsAmongFirst};
+ghost use Rattle.waff_plan.specs.Timetable.{timings_of};
+
+use crate::say;
+use crate::walk::push_line;
+use crate::words::Words;
+use std::alloc::{AllocError, Global};
+use waff_assign::Case;
+use waff_model::{AffinityId, Message, Tree, Version};
+use waff_plan::{Plan, Totals};
+use waff_plan_text::{GivenPlan, Row};
+
+/// A case, the plan that was given for it, the plan of its starts, and the bytes that give the plan.
+#[derive(Clone, Copy)]
+pub(crate) struct Hearing<'a> {
+    pub(crate) case: Case<'a>,
+    pub(crate) given: &'a GivenPlan,
+    pub(crate) plan: &'a Plan,
+    pub(crate) bytes: &'a [u8],
+    ghost rows: { length given.now.rows ≡ length case.trace.now.messages },
+    ghost timings: { plan.now.timings ≡ timings_of case.trace.now.messages },
+    ghost lengths: { length plan.now.timings ≡ length case.trace.now.messages },
+}
+
+/// A message, the row that tells of it, and what else there is to tell: the name of its affinity, and
+/// the tick at which the plan issues it.
+#[derive(Clone, Copy)]
+pub(crate) struct Heard<'a> {
+    pub(crate) number: u32,
+    pub(crate) message: &'a Message,
+    pub(crate) row: &'a Row,
+    pub(crate) affinity: &'a str,
+    issue: u64,
+}
+
+impl<'a> Hearing<'a> {
+    /// The message of this number.
+    pub(crate) fn message(&self, number: u32) -> Heard<'a>
+        requires { IsAmongFirst (length self.now.case.trace.now.messages) number }
+    {
+        Heard {
+            number,
+            message: self.case.trace.message(number),
+            row: self.given.row(number),
+            affinity: self.case.affinity_name(number),
+            issue: self.plan.issue(number),
+        }
+    }
+
+    /// The version of the trace.
+    pub(crate) fn version(&self) -> Version {
+        self.case.trace.version()
+    }
+
+    /// How many workers there are, 0 where the plan has none.
+    pub(crate) fn workers(&self) -> u32 {
+        self.given.workers().unwrap_or(0)
+    }
+
+    /// The totals that the starts of the rows and the chain of the summary make.
+    pub(crate) fn totals(&self) -> Totals {
+        self.plan.totals(self.given.workers(), self.given.chain())
+    }
+
+    /// Whether two messages exclude each other.
+    pub(crate) fn exclude(&self, one: u32, other: u32) -> bool
+        requires one { IsAmongFirst (length self.now.case.trace.now.messages) one }
+        requires other { IsAmongFirst (length self.now.case.trace.now.messages) other }
+    {
+        let (tree, assigned) = (self.case.tree, self.case.assigned);
+        tree.excludes(assigned.of(one), assigned.of(other))
+    }
+
+    /// Appends where the row of a message stands, and what there is to tell of the message.
+    pub(crate) fn push_message(&self, words: &mut Words, heard: &Heard<'_>) {
+        match format!(in words.alloc(); "{}", heard.number) {
+            Ok(number) => push_line(words, self.bytes, number.as_str()),
+            Err(_) => words.refuse(),
+        }
+        heard.push_facts(words, self.version());
+    }
+
+    /// Appends why the affinities of two messages exclude each other.
+    pub(crate) fn push_exclusion(&self, words: &mut Words, one: u32, other: u32)
+        requires one { IsAmongFirst (length self.now.case.trace.now.messages) one }
+        requires other { IsAmongFirst (length self.now.case.trace.now.messages) other }
+    {
+        let assigned = self.case.assigned;
+        push_why(words, self.case.tree, assigned.of(one), assigned.of(other));
+    }
+}
+
+impl<'a> Heard<'a> {
+    /// The start that the row tells.
+    pub(crate) fn start(&self) -> u64 {
+        self.row.start
+    }
+
+    /// The start and the cost of the message.
+    pub(crate) fn end(&self) -> u64 {
+        self.row.start.saturating_add(u64::from(self.message.cost))
+    }
+
+    /// Whether the message runs at a tick.
+    pub(crate) fn runs_at(&self, tick: u64) -> bool {
+        self.start() <= tick && tick < self.end()
+    }
+
+    /// From which tick to which the message and another one both run, where they do.
+    pub(crate) fn together(&self, other: &Heard<'_>) -> (u64, u64) {
+        (self.start().max(other.start()), self.end().min(other.end()))
+    }
+
+    /// Appends what there is to tell of the message: where messages have clients, also its client.
+    pub(crate) fn push_facts(&self, words: &mut Words, version: Version) {
+        let (message, row, number) = (self.message, self.row, self.number);
+        let (name, client) = (message.name.as_str(), message.client.as_str());
+        let (release, cost, think) = (message.release, message.cost, message.think);
+        let (affinity, issue) = (self.affinity, self.issue);
+        let (start, finish) = (row.start, row.finish);
+        match (version, row.worker) {
+            (Version::V3, Some(worker)) => say!(words; Message(number):
+                "{}, affinity {}, release {}, cost {}, client {}, think {}, issue {}, start {}, \
+                 finish {}, worker {}",
+                name, affinity, release, cost, client, think, issue, start, finish, worker),
+            (Version::V3, None) => say!(words; Message(number):
+                "{}, affinity {}, release {}, cost {}, client {}, think {}, issue {}, start {}, \
+                 finish {}",
+                name, affinity, release, cost, client, think, issue, start, finish),
+            (_, Some(worker)) => say!(words; Message(number):
+                "{}, affinity {}, release {}, cost {}, start {}, finish {}, worker {}",
+                name, affinity, release, cost, start, finish, worker),
+            (_, None) => say!(words; Message(number):
+                "{}, affinity {}, release {}, cost {}, start {}, finish {}",
+                name, affinity, release, cost, start, finish),
+        }
+    }
+}
+
+/// Appends why two affinities exclude each other.
+fn push_why(words: &mut Words, tree: &Tree, first: AffinityId, second: AffinityId)
+    requires first { first.0 < length tree.now }
+    requires second { second.0 < length tree.now }
+{
+    if first == second {
+        let name = tree.name(first);
+        say!(words; Why: "both run in {}, and an affinity excludes itself", name);
+    } else if tree.at_or_above(first, second) {
+        push_way(words, tree, second, first);
+    } else {
+        push_way(words, tree, first, second);
+    }
+}
+
+/// Appends that an affinity is below another, and the way in the tree from the one up to the other.
+fn push_way(words: &mut Words, tree: &Tree, low: AffinityId, high: AffinityId)
+    requires low { low.0 < length tree.now }
+    requires high { high.0 < length tree.now }
+{
+    let (below, above) = (tree.name(low), tree.name(high));
+    match way(words.alloc(), tree, low, high) {
+        Ok(way) => say!(words; Why: "{} and {} exclude each other, as {} is below {}: {}",
+            below, above, below, above, way.as_str()),
+        Err(_) => words.refuse(),
+    }
+}
+
+/// The way in the tree from an affinity up to one above it.
+fn way(alloc: Global, tree: &Tree, low: AffinityId, high: AffinityId) -> Result<String, AllocError>
+    requires low { low.0 < length tree.now }
+    requires high { high.0 < length tree.now }
+{
+    let mut way = String::new(alloc);
+    way.push_str(tree.name(low))?;
+    for number in (0..low.0).rev() {
+        let between = AffinityId(number);
+        if tree.at_or_above(between, low) && tree.at_or_above(high, between) {
+            way.push_str(" -> ")?;
+            way.push_str(tree.name(between))?;
+        }
+    }
+    Ok(way)
+}

@@ -1,5 +1,0 @@
-use Rattle.waff_say.proofs.LineLaws.{lines_are_one}
-use Rattle.waff_say.proofs.words.lines_are_one.Goals as goal
-
-pub returns : goal.returns
-returns c = lines_are_one
