@@ -12,7 +12,9 @@ use Rattle.waff_figures.specs.WorstText.{worst_lines}
 use Rattle.waff_figures.specs.declared.figures.Figures.{Figures}
 use Rattle.waff_inputs.specs.Inputs.{IsToldOf}
 use Rattle.waff_tool.specs.Figures.{IsSweepText}
-use Rattle.waff_tool.specs.WaitsText.{IsPlanFor}
+use Rattle.waff_tool.specs.WaitsText.{IsPlanFor, TellsWaits}
+use Rattle.waff_tool.specs.declared.waits.Waiting.{Waiting}
+use Rattle.waff_tool.specs.declared.waits.Waiting.TheVariants as waiting
 
 -- the text of the messages that take longest in the plan by this rule for this number of workers or
 -- without: a line for each of at most so many, the worst first, with the message that it waited for
@@ -44,3 +46,8 @@ WorstIsSwept rule hierarchy_file trace_file limit most =
     → Contains (swept.told.listed ++ swept.told.unlimited ∷ []) line → line.workers ≡ limit
     → told.told.worst ≡ first ∷ rest
     → latency_of (work_of_instance told.instance) (start_of told.told.starts) first ≡ line.latency
+
+-- what is told of the waits of the plan by this rule for this number of workers or without
+abbrev pub TellsWaiting : Waiting → Rule → Option ℕ → Instance → List ℕ → Type 0
+TellsWaiting (waiting.Rows grouping) rule workers = TellsWaits rule workers grouping
+TellsWaiting (waiting.Worst most) rule workers = TellsWorst rule workers most

@@ -6,7 +6,7 @@
 //! has taken a prefix of it. A plan is told with its printed chain as its *certificate*.
 //! - `told`: all commands that tell of one trace under one hierarchy, over a function of a case for each:
 //!   `assigns` (assign), `plans` (plan), `needs` (needs), `sweeps` (sweep), `limits` (limits), `wheres`
-//!   (where), `waits` and `worst` (waits), `why` (why). Plans for k workers are by a rule;
+//!   (where), `waits` (waits), `why` (why). Plans for k workers are by a rule;
 //!   `certificates`: plans with their printed chains.
 //! - `comparison` (compare, over `measures`), `ranks` (rank): commands that tell of a trace under several
 //!   hierarchies.
@@ -15,7 +15,7 @@
 //! - `replays` (replay, over `state_text`): the state that threads leave.
 //! - `explains` (explain): the fault or the verdict that the others find, in words.
 //! - `unique`, and the laws of `told`, `rates`, `ranks` and `draws`: one text or one fault for each input;
-//!   those of `limits`, `wheres`, `waits` and `worst`: what texts say of each other; `own`: plans that are
+//!   those of `limits`, `wheres` and `waits`: what texts say of each other; `own`: plans that are
 //!   printed pass the check.
 //!
 //! Where a call answers Ok, what it wrote is the text of these bytes and nothing else; `Delivers`
@@ -51,7 +51,6 @@ mod verdict_line;
 pub mod waits;
 pub mod wheres;
 mod why;
-pub mod worst;
 
 pub use assigns::assign_text;
 pub use checks::{check_text, verdict_status};

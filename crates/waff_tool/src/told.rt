@@ -11,10 +11,9 @@ use crate::limits::limited_text;
 use crate::needs::needed_text;
 use crate::plans::planned_text;
 use crate::sweeps::swept_text;
-use crate::waits::waited_text;
+use crate::waits::{Waiting, waited_text};
 use crate::wheres::spent_text;
 use crate::why::lifted_text;
-use crate::worst::worst_text;
 use std::alloc::{AllocError, Global};
 use std::io::Write;
 use std::thread::Threads;
@@ -88,9 +87,11 @@ fn text_of<R: Threads + Sync>(
             spent_text(alloc, &case, *workers, *rule, *label, *columns)
         }
         Told::Waits(workers, rule, grouping) => {
-            waited_text(alloc, &case, *workers, *rule, *grouping)
+            waited_text(alloc, &case, *workers, *rule, Waiting::Rows(*grouping))
         }
-        Told::Worst(workers, rule, most) => worst_text(alloc, &case, *workers, *rule, *most),
+        Told::Worst(workers, rule, most) => {
+            waited_text(alloc, &case, *workers, *rule, Waiting::Worst(*most))
+        }
         Told::Why(grouping) => lifted_text(alloc, accepted, *grouping),
     }
 }

@@ -1,50 +1,60 @@
-//! Who waits for whom.
+//! Who waits for whom, and the messages that take longest.
 ghost use Rattle.std.specs.Prelude.{◌<◌, ℕ, List, Option, IfOk};
 ghost use Rattle.std.specs.Prelude.{None, Some, length, string_bytes};
 ghost use Rattle.waff_assign.specs.Case.{instance_of};
-ghost use Rattle.waff_tool.specs.WaitsText.{TellsWaits, WaitsAreSwept};
+ghost use Rattle.waff_plan.specs.Obeys.{Obeys};
+ghost use Rattle.waff_plan.specs.Planned.{planned_order, planned_starts, planned_work};
+ghost use Rattle.waff_tool.specs.WaitsText.{IsPlanFor, WaitsAreSwept};
+ghost use Rattle.waff_tool.specs.WorstText.{TellsWaiting, WorstIsSwept};
 
 use std::alloc::{AllocError, Global};
 use waff_assign::Case;
 use waff_figures::wait_laws::ticks_add_up;
-use waff_figures::{Grouping, waiting_text};
+use waff_figures::{Grouping, waiting_text, worst_messages_text};
 use waff_list::{Rule, list_plan_of};
 use waff_plan::unlimited::plan;
 use waff_plan::{Planned, Workers};
 
-/// The text of who waits for whom in the plan of a case for this number of workers by this rule, or with
-/// no limit on them, where the rule changes nothing: for each pair of affinities, or for each pair of
-/// names and affinities, how many messages of the one wait for messages of the other or for a worker,
-/// and how long.
+/// What is told of the waits of a plan.
+#[derive(Clone, Copy)]
+pub enum Waiting {
+    /// For each pair of affinities, or for each pair of names and affinities, how many messages of the one
+    /// wait for messages of the other or for a worker, and how long.
+    Rows(Grouping),
+    /// At most so many messages, those of greatest latency: when each is issued, is ready, starts and has
+    /// finished, and which message it waited for.
+    Worst(u32),
+}
+
+/// The text of who waits in the plan of a case for this number of workers by this rule, or with no limit
+/// on them, where the rule changes nothing.
 pub(crate) fn waited_text(
     alloc: Global,
     case: &Case<'_>,
     workers: Option<Workers>,
     rule: Rule,
-    grouping: Grouping,
+    what: Waiting,
 ) -> Result<String, AllocError>
     ensures { IfOk result (λ text.
-        TellsWaits rule workers grouping (instance_of case.now) (string_bytes text)) }
+        TellsWaiting what rule workers (instance_of case.now) (string_bytes text)) }
 {
     match workers {
-        None => unlimited_waits(alloc, case, grouping),
-        Some(k) => worker_waits(alloc, case, k, rule, grouping),
+        None => unlimited_waits(alloc, case, what),
+        Some(k) => worker_waits(alloc, case, k, rule, what),
     }
 }
 
 /// The text of the unlimited plan.
-fn unlimited_waits(alloc: Global, case: &Case<'_>, grouping: Grouping) -> Result<String, AllocError>
+fn unlimited_waits(alloc: Global, case: &Case<'_>, what: Waiting) -> Result<String, AllocError>
     ensures { IfOk result (λ text. (rule : Rule)
-        → TellsWaits rule None grouping (instance_of case.now) (string_bytes text)) }
+        → TellsWaiting what rule None (instance_of case.now) (string_bytes text)) }
 {
     let plan = plan(alloc, case.tree, case.assigned, case.trace)?;
-    let _messages = plan.len();
-    ticks_add_up();
     let planned = Planned {
         case: *case,
         plan: &plan,
     };
-    let text = waiting_text(alloc, &planned, grouping);
+    let text = planned_waits(alloc, &planned, what);
     drop(plan);
     text
 }
@@ -55,19 +65,33 @@ fn worker_waits(
     case: &Case<'_>,
     k: Workers,
     rule: Rule,
-    grouping: Grouping,
+    what: Waiting,
 ) -> Result<String, AllocError>
     ensures { IfOk result (λ text.
-        TellsWaits rule (Some k) grouping (instance_of case.now) (string_bytes text)) }
+        TellsWaiting what rule (Some k) (instance_of case.now) (string_bytes text)) }
 {
     let made = list_plan_of(alloc, *case, rule, k.number())?;
-    ticks_add_up();
     let plan = made.plan();
-    let _messages = plan.len();
     let planned = Planned { case: *case, plan };
-    let text = waiting_text(alloc, &planned, grouping);
+    let text = planned_waits(alloc, &planned, what);
     drop(made);
     text
+}
+
+/// The text of a plan that obeys.
+fn planned_waits(alloc: Global, planned: &Planned<'_>, what: Waiting) -> Result<String, AllocError>
+    requires { Obeys (planned_order planned.now) (planned_work planned.now)
+        (planned_starts planned.now) }
+    ensures { IfOk result (λ text. (rule : Rule) (workers : Option ℕ)
+        → IsPlanFor rule (instance_of planned.now.case) workers (planned_starts planned.now)
+        → TellsWaiting what rule workers (instance_of planned.now.case) (string_bytes text)) }
+{
+    let _messages = planned.plan.len();
+    ticks_add_up();
+    match what {
+        Waiting::Rows(grouping) => waiting_text(alloc, planned, grouping),
+        Waiting::Worst(most) => worst_messages_text(alloc, planned, most),
+    }
 }
 
 /// The ticks that it tells add up to the `waits` of each line of a sweep by the same rule for as many
@@ -75,4 +99,10 @@ fn worker_waits(
 pub fn waits_are_swept()
     ensures equal { (rule : Rule) (hierarchy_file trace_file : List ℕ) (workers : Option ℕ)
         (grouping : Grouping) → WaitsAreSwept rule hierarchy_file trace_file workers grouping }
+{}
+
+/// The latency of its first line is the greatest that a sweep tells of the same plan.
+pub fn worst_is_swept()
+    ensures equal { (rule : Rule) (hierarchy_file trace_file : List ℕ) (limit : Option ℕ)
+        (most : ℕ) → WorstIsSwept rule hierarchy_file trace_file limit most }
 {}
