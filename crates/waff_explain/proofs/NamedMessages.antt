@@ -38,7 +38,7 @@ pair_is_named claim first second lengths overlaps =
     )
 
 positive : (n followed : ℕ) → some_number n ≡ Some followed → 1 ≤ n
-positive zero followed is = absurd is
+positive zero followed is = let bad : None ≡ Some followed = is in absurd (cc)
 positive (suc n) followed is = omega arith
 
 -- a message that starts before it is issued follows one

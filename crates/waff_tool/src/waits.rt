@@ -79,12 +79,8 @@ fn worker_waits(
 }
 
 /// The text of a plan that obeys.
-fn planned_waits(
-    alloc: Global,
-    planned: &Planned<'_>,
-    what: Waiting,
-) -> Result<String, AllocError>
-    requires obeys { Obeys (planned_order planned.now) (planned_work planned.now)
+fn planned_waits(alloc: Global, planned: &Planned<'_>, what: Waiting) -> Result<String, AllocError>
+    requires { Obeys (planned_order planned.now) (planned_work planned.now)
         (planned_starts planned.now) }
     ensures { IfOk result (λ text. (rule : Rule) (workers : Option ℕ)
         → IsPlanFor rule (instance_of planned.now.case) workers (planned_starts planned.now)
