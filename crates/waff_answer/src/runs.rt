@@ -325,7 +325,7 @@ fn settings_of<'a>(task: &'a RunTask) -> Settings<'a>
     Settings {
         pace: Pace {
             workers: words.workers.number(),
-            tick: words.tick,
+            tick: words.tick.nanoseconds(),
             loud: task.loud,
         },
         fill: words.fill,

@@ -19,7 +19,8 @@ use Rattle.waff_figures.specs.declared.told.Told.TheVariants as told
 use Rattle.waff_list.specs.declared.rule.Rule.{Rule}
 use Rattle.waff_list.specs.declared.rule.Rule.TheVariants as rule
 use Rattle.waff_cli.specs.declared.run_words.RunWords.{RunWords}
-use Rattle.waff_cli.specs.declared.run_words.TheConstants.{CELL, TICK}
+use Rattle.waff_cli.specs.declared.run_words.TheConstants.{CELL}
+use Rattle.waff_cli.specs.declared.tick.TheConstants.{TICK}
 use Rattle.waff_cli.specs.declared.words.Asked.{Asked}
 use Rattle.waff_cli.specs.declared.words.Asked.TheVariants as asked
 use Rattle.waff_cli.specs.declared.words.Drawing.{Drawing}

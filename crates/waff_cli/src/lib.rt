@@ -2,7 +2,7 @@
 //!
 //! - `question`: the words and then the files are read; `task`: a question, or messages to be run.
 //! - `words`: what the words ask for that were found, as `requests`, without the files; `run_words`: the
-//!   words of `run`; `found`: what was found for an option or a file.
+//!   words of `run`, and `tick` its tick; `found`: what was found for an option or a file.
 //! - `commands`: what a command has in the table: its name, files, options and help; `table`: the rows of that
 //!   table; `parser`: its parser; `help`: what the help of the program ends with, made of it.
 //! - `files`: files and standard input, read whole.
@@ -33,6 +33,7 @@ mod run_words;
 mod table;
 mod task;
 mod threads;
+mod tick;
 mod tips;
 mod unique;
 mod words;
@@ -44,5 +45,6 @@ pub use refusal::Refusal;
 pub use run_words::RunWords;
 pub use task::{Question, RunTask, Task};
 pub use threads::thread_count;
+pub use tick::Tick;
 pub use unique::asked_is_one;
 pub use words::{Asked, Drawing};

@@ -1,14 +1,16 @@
 //! The words of `run`.
-ghost use Rattle.std.specs.Prelude.{◌≡◌, ◌≤◌, ◌==◌, IfOk, IfSome, Some, codes, map, option_map, string_bytes};
+ghost use Rattle.std.specs.Prelude.{◌≡◌, ◌==◌, IfOk, IfSome, Some, codes, map, option_map, string_bytes};
 ghost use Rattle.std.specs.Prelude.{unwrap_or, []};
 ghost use Rattle.std.specs.Option.{option_map_or};
 ghost use Rattle.clap.specs.Words.{all_of, first_of};
 ghost use Rattle.waff_cli.specs.Words as asks;
-ghost use Rattle.waff_cli.specs.Words.{IsRunGiven, rows_in, tick_of, workers_in};
+ghost use Rattle.waff_cli.specs.Words.{IsRunGiven, rows_in, workers_in};
+ghost use Rattle.waff_cli.specs.declared.tick.TheConstants.{TICK};
 
 use crate::files::INPUT;
 use crate::found::{flag_in, number_in, word_in, words_in};
 use crate::refusal::Refusal;
+use crate::tick::Tick;
 use clap::ArgMatches;
 use std::alloc::{AllocError, Global};
 use waff_plan::Workers;
@@ -23,8 +25,7 @@ pub struct RunWords {
     pub workers: Workers,
     /// Bytes of a cell.
     pub cell: u32,
-    /// Nanoseconds of a tick.
-    pub tick: u32,
+    pub tick: Tick,
     /// Whether files that no run has made are written over.
     pub over: bool,
     /// Whether each cell that the trace names is read and written back first.
@@ -33,7 +34,6 @@ pub struct RunWords {
     pub sync_writes: bool,
     /// The names of messages at whose end the files of their cells are synced.
     pub syncs: Vec<String>,
-    pub ghost lasting: { 1 ≤ tick },
 }
 
 /// The bytes of a cell where they are not given.
@@ -41,9 +41,6 @@ pub const CELL: u32 = 4_096;
 
 /// The most bytes of a cell.
 pub(crate) const MAX_CELL: u32 = 1_048_576;
-
-/// The nanoseconds of a tick where they are not given.
-pub const TICK: u32 = 1_000;
 
 /// The words of `run` for this many workers.
 pub fn run_words(
@@ -108,17 +105,16 @@ fn cell_of(rt: &impl Eprint, found: &ArgMatches<'_>) -> Result<u32, Refusal>
 }
 
 /// The nanoseconds of a tick.
-fn tick_in_words(rt: &impl Eprint, found: &ArgMatches<'_>) -> Result<u32, Refusal>
-    ensures tick { IfOk result (λ tick. tick
-        ≡ option_map_or tick_of (first_of (codes "tick") (rows_in found.now)) TICK) }
-    ensures lasting { IfOk result (λ tick. 1 ≤ tick) }
+fn tick_in_words(rt: &impl Eprint, found: &ArgMatches<'_>) -> Result<Tick, Refusal>
+    ensures { IfOk result (λ tick. tick
+        ≡ option_map_or asks.tick_of (first_of (codes "tick") (rows_in found.now)) TICK) }
 {
     match word_in(found, "tick") {
-        Some(word) => match nanoseconds(word) {
+        Some(word) => match tick_of(word) {
             Some(tick) => Ok(tick),
             None => Err(Refusal::because(rt, NO_TICK)),
         },
-        None => Ok(TICK),
+        None => Ok(Tick::usual()),
     }
 }
 
@@ -149,20 +145,15 @@ fn copies_of(alloc: Global, words: &[&str]) -> Result<Vec<String>, AllocError>
     Ok(copies)
 }
 
-/// The nanoseconds of a number of microseconds, with at most three digits behind the point.
-fn nanoseconds(word: &str) -> Option<u32>
-    ensures tick { IfSome result (λ nanos. nanos ≡ tick_of word.now) }
-    ensures lasting { IfSome result (λ nanos. 1 ≤ nanos) }
+/// The tick of a number of microseconds, with at most three digits behind the point.
+fn tick_of(word: &str) -> Option<Tick>
+    ensures { IfSome result (λ tick. tick ≡ asks.tick_of word.now) }
 {
     let nanos = match word.split_once('.') {
         Some((whole, part)) => nanoseconds_of(whole, part)?,
         None => nanoseconds_of(word, "0")?,
     };
-    if nanos >= 1 && nanos <= 1_000_000_000 {
-        Some(nanos as u32)
-    } else {
-        None
-    }
+    Tick::of(nanos)
 }
 
 /// The nanoseconds of so many microseconds, by the digits before the point and behind it.
