@@ -40,8 +40,8 @@ returns-in-Waits g c =
 
 pub returns-in-Worst : goal.returns-in-Worst
 returns-in-Worst g c =
-    tells_as (λ text. string_bytes text) _ (told.Worst c.in-Worst.workers c.in-Worst.rule c.in-Worst.most) c.args.accepted.now.layout _ _ c.waited_text.result c.in-Worst.is c.case-case.ensures.instance
-    c.waited_text.ensures
+    tells_as (λ text. string_bytes text) _ (told.Worst c.in-Worst.workers c.in-Worst.rule c.in-Worst.most) c.args.accepted.now.layout _ _ c.waited_text-in-Worst.result c.in-Worst.is c.case-case.ensures.instance
+    c.waited_text-in-Worst.ensures
 
 pub returns-in-Why : goal.returns-in-Why
 returns-in-Why g c =
