@@ -38,6 +38,26 @@ def options(program: str) -> list[str]:
     return sorted(set(re.findall(r"(?<!\S)--?[a-z][a-z-]*\b", " ".join(helps))))
 
 
+# Imports all modules of workloads/, and with them those that they need, so that Python writes what it makes of them.
+COMPILE = """import importlib, pkgutil, sys, tomllib
+sys.path.insert(0, sys.argv[1])
+import wafftrace
+for it in pkgutil.iter_modules(wafftrace.__path__, "wafftrace."):
+    try:
+        importlib.import_module(it.name)
+    except ImportError:
+        pass
+"""
+
+
+def quicken(folder: pathlib.Path) -> None:
+    """Makes the scripts of workloads/ begin sooner that are started from here: in this folder they find their modules as Python compiles them,
+    which is most of what a short call of one takes. The scripts themselves write nothing of it, so that nothing lies beside them."""
+    os.environ["PYTHONPYCACHEPREFIX"] = str(folder)
+    environment = {name: value for name, value in os.environ.items() if name != "PYTHONDONTWRITEBYTECODE"}
+    subprocess.run([sys.executable, "-c", COMPILE, ROOT / "workloads"], stdin=subprocess.DEVNULL, env=environment, check=True)
+
+
 def written_at(terminal: int) -> str:
     """What was written to a terminal whose other side is closed, and which is closed here then."""
     parts = []

@@ -1,4 +1,4 @@
-# Runs scripts as parts of the one that reads this file, and adds up their last lines, each `N passed, M failed`.
+# Runs scripts as parts of the one that reads this file, tells how long each takes, and adds up their last lines, each `N passed, M failed`.
 
 passed=0
 failed=0
@@ -20,12 +20,13 @@ add() {
 
 # Runs a part.
 part() {
-    local log status
+    local log status begun=$SECONDS
     echo "$*:"
     log=$(mktemp) || exit 1
     "$@" 2>&1 | tee -- "$log"
     status=${PIPESTATUS[0]}
     add "$log" "$status" "$@"
+    echo "$* took $((SECONDS - begun)) s"
     rm -f -- "$log"
 }
 
@@ -36,9 +37,14 @@ names=()
 
 # Runs a part beside the others.
 beside() {
-    local log
+    local log begun=$SECONDS
     log=$(mktemp) || exit 1
-    "$@" >"$log" 2>&1 &
+    {
+        ("$@") >"$log" 2>&1
+        status=$?
+        echo "$((SECONDS - begun))" >"$log.seconds"
+        exit "$status"
+    } &
     processes+=("$!")
     logs+=("$log")
     names+=("$*")
@@ -53,6 +59,7 @@ all_beside() {
         echo "${names[at]}:"
         cat -- "${logs[at]}"
         add "${logs[at]}" "$status" "${names[at]}"
-        rm -f -- "${logs[at]}"
+        echo "${names[at]} took $(cat -- "${logs[at]}.seconds") s"
+        rm -f -- "${logs[at]}" "${logs[at]}.seconds"
     done
 }

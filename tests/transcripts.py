@@ -103,13 +103,20 @@ def faults_of(shown: str, printed: str) -> list[str]:
     return [] if shown == printed else list(lines)[2:12]
 
 
+def wanted_of(folder: pathlib.Path, wanted: set[str]) -> Iterator[tuple[pathlib.Path, list[Case]]]:
+    """The transcripts of a folder with their cases, those that are wanted or whose transcript is, or all."""
+    for path in sorted(folder.glob("*.txt")):
+        yield path, [it for it in cases(path) if not wanted or wanted & {path.stem, it.name}]
+
+
 def run(folder: pathlib.Path, program: str, wanted: set[str], count: Count | None) -> None:
-    """Runs the cases of a folder, those that are wanted or whose transcript is, or all, and counts those that print what they show.
-    Where nothing is counted, what they print is kept."""
+    """Runs the cases of a folder, those that are wanted or all, and counts those that print what they show. Where nothing is counted, what
+    they print is kept."""
     with ThreadPoolExecutor(os.cpu_count()) as pool:
-        for path in sorted(folder.glob("*.txt")):
-            every = [it for it in cases(path) if not wanted or wanted & {path.stem, it.name}]
-            printed = list(pool.map(Case.run, every, repeat(program)))
+        # All are begun before the first one is waited for.
+        begun = [(path, every, pool.map(Case.run, every, repeat(program))) for path, every in wanted_of(folder, wanted)]
+        for path, every, of in begun:
+            printed = list(of)
             if count is None:
                 keep(path, {case.name: text for case, text in zip(every, printed, strict=True)})
             else:

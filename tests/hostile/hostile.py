@@ -140,10 +140,10 @@ def processor_seconds() -> float:
     return used.ru_utime + used.ru_stime
 
 
-def run(words: Iterable[str], stdin: bytes = b"", before: Iterable[str] = ()) -> Run:
+def run(words: Iterable[str | bytes], stdin: bytes = b"", before: Iterable[str] = ()) -> Run:
     """Runs the program with the words; `before` are words that start it."""
     begin = processor_seconds()
-    command = [*before, PROGRAM, *words]
+    command: list[str | bytes] = [*before, PROGRAM, *words]
     try:
         done = subprocess.run(command, input=stdin, stdout=subprocess.PIPE, stderr=subprocess.PIPE, timeout=HANGS)
     except subprocess.TimeoutExpired:

@@ -9,6 +9,7 @@ from collections.abc import Callable, Iterator
 from pathlib import Path
 
 from common import Count
+from hierarchies import hierarchy
 
 HEADERS = {1: "message,cost,ops", 2: "message,cost,release,ops", 3: "message,cost,release,client,think,ops"}
 PLAIN = """model = "hierarchical"
@@ -23,15 +24,7 @@ MARK = ".waff"
 def leaves(count: int) -> str:
     """A hierarchy of so many leaves below one root, and a space of which each has every so many cells."""
     names = [f"a{leaf}" for leaf in range(count)]
-    return "\n".join(
-        [
-            'model = "hierarchical"',
-            'affinity = [{ name = "root" }' + "".join(f', {{ name = "{name}", parent = "root" }}' for name in names) + "]",
-            'space = [{ name = "s", size = 4096 }]',
-            f'map = [{{ space = "s", unit = 1, to = {names} }}]'.replace("'", '"'),
-            "",
-        ]
-    )
+    return hierarchy([("root", None), *((name, "root") for name in names)], [("s", 4096)], [("s", 1, names)])
 
 
 def trace_text(version: int, rows: list[str]) -> str:

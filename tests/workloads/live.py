@@ -13,25 +13,26 @@ import sys
 import tomllib
 from collections import defaultdict, deque
 
+Asked = tuple[int, int, str | int]
+
 
 class Tree:
-    def __init__(self, name):
+    def __init__(self, name: str) -> None:
         with open(name, "rb") as file:
             tree = tomllib.load(file)
-        self.above = {it["name"]: it.get("parent") for it in tree["affinity"]}
-        self.maps = {it["space"]: (it["unit"], it["to"]) for it in tree["map"]}
+        self.above: dict[str, str | None] = {it["name"]: it.get("parent") for it in tree["affinity"]}
+        self.maps: dict[str, tuple[int, list[str]]] = {it["space"]: (it["unit"], it["to"]) for it in tree["map"]}
 
-    def way(self, affinity):
+    def way(self, affinity: str) -> list[str]:
         """The affinity and all above it."""
-        found = []
-        while affinity is not None:
-            found.append(affinity)
-            affinity = self.above[affinity]
+        found = [affinity]
+        while (above := self.above[found[-1]]) is not None:
+            found.append(above)
         return found
 
-    def affinity(self, ops):
+    def affinity(self, ops: str) -> str:
         """The lowest affinity at or above the owners of all cells that the operations name."""
-        owners = set()
+        owners = set[str]()
         for op in ops.split(";"):
             for word in op.split(" ")[1:]:
                 space, colon, cells = word.rpartition(":")
@@ -43,16 +44,18 @@ class Tree:
         return max(common, key=lambda it: len(self.way(it)))
 
 
-def simulate(tree, rows, workers):
+def simulate(tree: Tree, rows: list[dict[str, str]], workers: int) -> list[tuple[int, int, int]]:
     """The cost, the tick of the request, and that of the answer of each message."""
     ways = [tree.way(tree.affinity(row["ops"])) for row in rows]
-    to_ask = defaultdict(deque)
+    # What has no client is one of its own, by its number.
+    to_ask: dict[str | int, deque[int]] = defaultdict(deque)
     for number, row in enumerate(rows):
         to_ask[row["client"] if row["client"] != "-" else number].append(number)
-    asked, answered = {}, {}
-    coming, queue, running = [], [], []
+    asked, answered = dict[int, int](), dict[int, int]()
+    # When each comes, came or ends, its number, and its client.
+    coming, queue, running = list[Asked](), list[Asked](), list[Asked]()
 
-    def ask(client, answer):
+    def ask(client: str | int, answer: int) -> None:
         """The client thinks about its next request, if it has one."""
         if to_ask[client]:
             number = to_ask[client].popleft()
@@ -69,7 +72,7 @@ def simulate(tree, rows, workers):
             ask(client, now)
         while coming and coming[0][0] == now:
             queue.append(heapq.heappop(coming))
-        left, named, under = [], set(), set()
+        left, named, under = list[Asked](), set[str](), set[str]()
         for _, number, _ in running:
             named.add(ways[number][0])
             under.update(ways[number])
@@ -86,12 +89,12 @@ def simulate(tree, rows, workers):
     return [(int(row["cost"]), asked[number], answered[number]) for number, row in enumerate(rows)]
 
 
-def ratio(p, q):
+def ratio(p: int, q: int) -> str:
     """Two digits after the point, rounded down, as the program prints them."""
     return f"{p // q}.{100 * p // q % 100:02}"
 
 
-def figures(hier, trace, workers):
+def figures(hier: str, trace: str, workers: int) -> tuple[str, str]:
     with open(trace, newline="") as file:
         found = simulate(Tree(hier), list(csv.DictReader(file)), workers)
     length = max(answer for _, _, answer in found)

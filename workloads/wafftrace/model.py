@@ -407,7 +407,7 @@ class Messages:
         for item in self.items:
             it = item.request
             release = (it.time - start if item.came else item.release) // tick
-            self.after = self.list_of(item, last)
+            self.after = self.list_of(item, last) if item.after else ""
             self.item_costs.append(self.of_request(it, release, self.gap(item.think)))
             last[item.number] = len(self.lines) - 1
             self.lists.messages = len(self.lines) - 1
@@ -444,11 +444,16 @@ class Messages:
 
     def list_of(self, item: Item, last: dict[int, int]) -> str:
         """What a message waits for: the numbers of messages, and the gaps behind them."""
-        pieces = sorted((last[number], self.gap_behind(gap)) for number, gap, _ in item.after if last[number] > 0)
-        self.lists.by_kind.update(kind for number, _, kind in item.after if last[number] > 0)
+        pieces = []
+        for number, gap, kind in item.after:
+            if last[number] > 0:
+                pieces.append((last[number], self.gap_behind(gap)))
+                self.lists.by_kind[kind] += 1
+        if len(pieces) > 1:
+            pieces.sort()
         self.lists.pieces += len(pieces)
         self.lists.waiting += bool(pieces)
-        return " ".join(f"{number}+{gap}" if gap else f"{number}" for number, gap in pieces)
+        return " ".join([f"{number}+{gap}" if gap else f"{number}" for number, gap in pieces])
 
     def head(self, kind: str, file: File) -> str:
         """How an operation on the data of a file begins."""
@@ -460,11 +465,14 @@ class Messages:
         self.release, self.think, self.client = release, think, it.client
         blocks = self.taken(it, first, last) if self.takes else None
         cost, after = self.blocks(cost, it.place.volume, [blocks]) if blocks else (cost, [])
-        runs = pieces(first, last, self.most)
-        parts = shares(cost, [end - begin + 1 for begin, end in runs])
         tail = "" if it.kind == "read" else " 0" if it.kind == "free" else f" {self.number}"
-        for (begin, end), part in zip(runs, parts, strict=True):
-            self.line(it.name, part, self.operations(head, begin, end, tail))
+        if last - first < self.most:
+            self.line(it.name, cost, self.operations(head, first, last, tail))
+        else:
+            runs = pieces(first, last, self.most)
+            parts = shares(cost, [end - begin + 1 for begin, end in runs])
+            for (begin, end), part in zip(runs, parts, strict=True):
+                self.line(it.name, part, self.operations(head, begin, end, tail))
         for line in after:
             self.line(*line)
 

@@ -10,7 +10,7 @@ from dataclasses import dataclass, field
 from . import limits
 from .logs import Data, Refusal, Request, counted, shown
 from .order_frontier import Edge, Frontiers
-from .order_steps import CALLS, Birth, Steps, Whose, what_counts
+from .order_steps import NO_REQUESTS, Birth, Steps, Whose
 from .order_walk import KINDS, Named, Tally, Walk
 from .prices import keeping_thinks
 from .processes import Who
@@ -43,26 +43,25 @@ class Record:
         self.is_delayed = False
 
     def of(self, who: Who, number: str, box: str) -> Whose:
+        """Whose a call is. A thread has the number that it was seen with first."""
         found = self.whose.get(who.thread)
         if found is None:
-            found = self.whose[who.thread] = who.thread, number, who.process, box
+            found = self.whose[who.thread] = Whose(who.thread, number, who.process, box)
         return found
 
-    def call(self, who: Who, number: str, box: str, places: tuple[int, int], times: tuple[int, int], call: tuple[str, str, str, str], requests: range) -> None:
-        """A call that has returned: the places of its lines, its beginning and how long it took, its name, arguments, result and what stands
-        behind that, and the requests that it made."""
-        name, args, result, tail = call
-        if name in CALLS or requests:
-            begun, took = times
-            self.steps.add(self.of(who, number, box), places, (begun, begun + took), (name, what_counts(name, args), result, tail), requests)
-            self.is_delayed = self.is_delayed or DELAYED in tail
+    def call(self, whose: Whose, begun: int, ended: int, time: int, end: int, words: tuple[str, str, str, str], requests: range) -> None:
+        """A call that has returned: the places and times of its beginning and its end, its name, what counts of its arguments, its result
+        and what stands behind that, and the requests that it made."""
+        self.steps.add(whose, begun, ended, time, end, words, requests)
+        if DELAYED in words[3]:
+            self.is_delayed = True
 
-    def line(self, who: Who, number: str, box: str, at: int, time: int, text: str) -> None:
+    def line(self, whose: Whose, at: int, time: int, text: str) -> None:
         """A signal, or the end of a thread."""
-        self.steps.add(self.of(who, number, box), (at, at), (time, time), (text[:3], text, "", ""), range(0))
+        self.steps.add(whose, at, at, time, time, (text[:3], text, "", ""), NO_REQUESTS)
 
     def birth(self, child: Who, number: str, box: str, parent: Who, begun: int) -> None:
-        self.births.append(Birth(begun, child.thread, number, child.process, box, parent.thread))
+        self.births.append(Birth(begun, Whose(child.thread, number, child.process, box), parent.thread))
 
     def makes(self, request: int, *keys: object) -> None:
         """Others find by this name what a request made, or that it is free."""
@@ -75,9 +74,9 @@ class Record:
         walk = Walk(requests, self.kinds, self.named)
         walk.go(self.steps, self.births)
         begun = [0] * len(requests)
-        for at, first in enumerate(self.steps.first):
-            for number in range(first, first + self.steps.count[at]):
-                begun[number] = self.steps.begun[at]
+        for place, made in zip(self.steps.begun, self.steps.requests, strict=True):
+            for number in made:
+                begun[number] = place
         return Order(requests, walk.frontiers, begun, walk.tally, self.is_delayed)
 
 
@@ -115,10 +114,12 @@ class Order:
         of = self.frontiers
         for at in numbers:
             it, client = self.requests[at], of.whose[at]
-            after = [entry for entry in of.after[at] if entry[0] in known]
+            every = after = of.after[at]
             is_first = client not in mine
-            self.backwards += sum(entry[0] in wanted and entry[0] not in known for entry in of.after[at])
-            came = len(after) < len(of.after[at]) or is_first and of.thinks[at] > 0
+            if any(entry[0] not in known for entry in every):
+                after = [entry for entry in every if entry[0] in known]
+                self.backwards += sum(entry[0] in wanted and entry[0] not in known for entry in every)
+            came = len(after) < len(every) or is_first and of.thinks[at] > 0
             yield Item(at, it, 0 if is_first else of.thinks[at], of.releases[at], after, came)
             known.add(at)
             mine.add(client)
@@ -201,7 +202,7 @@ class Bracket:
         """Takes one that waits for others too."""
         self.take(item.request, cost, item.request.took or 0)
         client = item.request.client
-        self.ends[item.number] = self.last[client] = max([self.last.get(client, 0), *(self.ends[it] for it, _, _ in item.after)]) + cost
+        self.ends[item.number] = self.last[client] = max([self.last.get(client, 0), *[self.ends[it] for it, _, _ in item.after]]) + cost
 
     def figure(self, longest: Iterable[int]) -> str:
         return f"{self.total / max(1, max(longest, default=0)):.2f}"

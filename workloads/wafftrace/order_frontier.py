@@ -17,15 +17,18 @@ Entry = tuple[int, int]
 Edge = tuple[int, int, str]
 # Of each client the entries of which none makes another one needless.
 Entries = dict[str, list[Entry]]
+NO_ENTRIES: list[Entry] = []
 
 
 @dataclass(slots=True)
 class Point:
-    """A place in a thread that others may wait for: when it was, whose it is, and what had come before it."""
+    """A place in a thread that others may wait for: when it was, whose it is, and what had come before it, with gaps less the clock. Points
+    and their thread share entries, which nobody changes."""
 
     time: int
     who: str
     of: Entries
+    clock: int = 0
 
 
 @dataclass(slots=True)
@@ -48,7 +51,7 @@ class Thread:
 
     def here(self) -> Point:
         """The point at which the thread is."""
-        return Point(self.last, self.name, {client: [(it, self.clock + gap) for it, gap in every] for client, every in self.own.items()})
+        return Point(self.last, self.name, self.own, self.clock)
 
 
 class Frontiers:
@@ -68,41 +71,49 @@ class Frontiers:
         # When each ends in its client's own time, and the least time at which it is issued if nothing costs anything.
         self.ends = [0] * count
         self.least = [0] * count
-        # Requests of a client without lists share what is known of the first of them, their `base`; `since` are the think times up to each.
+        # Requests of a client without lists share what is known of the first of them, their `base`, with gaps less `since`: the think times up
+        # to each.
         self.base = [0] * count
         self.since = [0] * count
         self.known: dict[int, dict[str, Entry]] = {}
 
-    def put(self, every: Sequence[Entry], number: int, gap: int) -> list[Entry]:
-        """These entries of a client and another one, without those that others make needless at the times of the log."""
-        left, ends = list[Entry](), self.ends
-        gap = max([gap, *(behind for other, behind in every if other == number)])
-        for other, behind in every:
-            if other > number and gap <= behind + ends[other] - ends[number]:
-                return list(every)
-            if other > number or other < number and behind > gap + ends[number] - ends[other]:
-                left.append((other, behind))
-        return sorted([*left, (number, gap)]) if left else [(number, gap)]
+    def put(self, every: list[Entry], number: int, gap: int) -> list[Entry]:
+        """These entries of a client and another one, without those that others make needless at the times of the log: the same list where
+        that is the other one."""
+        ends, left = self.ends, list[Entry]()
+        for entry in every:
+            other, behind = entry
+            if other < number:
+                if behind > gap + ends[number] - ends[other]:
+                    left.append(entry)
+            elif gap <= (behind if other == number else behind + ends[other] - ends[number]):
+                return every
+            elif other > number:
+                left.append(entry)
+        left.append((number, gap))
+        return left if left[0][0] == number else sorted(left)
 
     def both(self, first: Point | None, second: Point) -> Point:
         """A point that comes after both; its time is the later one."""
         if first is None:
-            return Point(second.time, second.who, dict(second.of))
+            return second
+        of, more = dict(first.of), second.clock - first.clock
         for client, every in second.of.items():
             for number, gap in every:
-                first.of[client] = self.put(first.of.get(client, ()), number, gap)
-        first.time, first.who = max(first.time, second.time), second.who
-        return first
+                of[client] = self.put(of.get(client, NO_ENTRIES), number, gap + more)
+        return Point(max(first.time, second.time), second.who, of, first.clock)
 
     def join(self, thread: Thread, point: Point, more: int, kind: str) -> None:
         """Lets a thread come after a point by so much more, for a reason of this kind."""
+        own, more = dict(thread.own), point.clock + more - thread.clock
         for client, every in point.of.items():
             for number, gap in every:
-                old = thread.own.get(client)
-                found = self.put(old or (), number, gap + more - thread.clock)
-                if found != old:
-                    thread.own[client] = found
+                old = own.get(client, NO_ENTRIES)
+                found = self.put(old, number, gap + more)
+                if found is not old:
+                    own[client] = found
                     thread.why[number] = kind
+        thread.own = own
 
     def issue(self, thread: Thread, numbers: range) -> None:
         """The requests of a call of this thread: the first waits for what the thread comes after, the others for the one before."""
@@ -120,10 +131,12 @@ class Frontiers:
         name, clock = thread.name, thread.clock
         mine = thread.own.get(name)
         own = (mine[-1][0], max(0, clock + mine[-1][1])) if mine else None
-        others = [
-            (client, it, max(0, clock + gap)) for client, every in thread.own.items() if client != START
-            for it, gap in (every[:-1] if client == name else every)
-        ]
+        others: list[tuple[str, int, int]] = []
+        for client, every in thread.own.items():
+            if client == name:
+                every = every[:-1]
+            if client != START:
+                others += [(client, it, max(0, clock + gap)) for it, gap in every]
         self.raw += len(others)
         found = self.reduced(name, own, others) if others else []
         self.after[number] = [(it, gap, thread.why[it]) for it, gap in found]
@@ -139,11 +152,10 @@ class Frontiers:
 
     def way(self, number: int, client: str, before: int) -> int | None:
         """The gaps from a request of a client to this one that are certain; None where this one is not known to come after it."""
-        base = self.base[number]
-        found = self.known[base].get(client)
+        found = self.known[self.base[number]].get(client)
         if found is None or found[0] < before:
             return None
-        return found[1] + self.since[number] - self.since[base] + self.since[found[0]] - self.since[before]
+        return found[1] + self.since[number] + self.since[found[0]] - self.since[before]
 
     def reduced(self, name: str, own: Entry | None, others: list[tuple[str, int, int]]) -> list[Entry]:
         """The entries that no other one makes needless, whatever requests cost."""
@@ -161,25 +173,28 @@ class Frontiers:
 
     def note(self, name: str, number: int, own: Entry | None) -> None:
         """Notes what a request is known to come after."""
-        think = own[1] if own is not None else 0
-        before = own[0] if own is not None else -1
-        self.ends[number] = (self.ends[before] if own is not None else 0) + think + self.took[number]
-        self.since[number] = (self.since[before] if own is not None else 0) + think
-        if own is not None and not self.after[number]:
-            self.base[number] = self.base[before]
-            return
-        self.base[number] = number
-        known: dict[str, Entry] = {}
-        for via, gap in [*(it[:2] for it in self.after[number]), *([own] if own is not None else [])]:
-            base = self.base[via]
-            more = self.since[via] - self.since[base] + gap
-            for client, (it, behind) in self.known[base].items():
+        known, now = dict[str, Entry](), 0
+        if own is None:
+            self.ends[number] = self.took[number]
+        else:
+            before, think = own
+            now = self.since[before] + think
+            self.ends[number] = self.ends[before] + think + self.took[number]
+            if not self.after[number]:
+                self.since[number], self.base[number] = now, self.base[before]
+                return
+            known = dict(self.known[self.base[before]])
+            known[name] = before, think - now
+        self.since[number], self.base[number], self.known[number] = now, number, known
+        for via, gap, _ in self.after[number]:
+            more = gap - now
+            keep_latest(known, self.whose[via], via, more)
+            more += self.since[via]
+            for client, (it, behind) in self.known[self.base[via]].items():
                 keep_latest(known, client, it, behind + more)
-            keep_latest(known, self.whose[via], via, gap)
-        self.known[number] = known
 
 
 def keep_latest(known: dict[str, Entry], client: str, number: int, gap: int) -> None:
     old = known.get(client)
-    if old is None or (number, gap) > old:
+    if old is None or number > old[0] or number == old[0] and gap > old[1]:
         known[client] = number, gap

@@ -3,24 +3,23 @@
 import collections
 from bisect import bisect_left
 from collections.abc import Iterator
-from dataclasses import dataclass
+from typing import NamedTuple
 
 from .order_frontier import Frontiers, Point
 
 # Behind the last byte of any file.
-END = 1 << 63
+BEHIND = 1 << 63
 # Whose a lock is: a process, or a descriptor of it.
 Holder = tuple[str, int]
 # A file and a kind of its locks, which know nothing of the other kind.
 Key = tuple[str, str]
 
 
-@dataclass(frozen=True, slots=True)
-class Range:
+class Range(NamedTuple):
     """Bytes of a file, from one up to another."""
 
     first: int = 0
-    end: int = END
+    end: int = BEHIND
 
     def without(self, other: "Range") -> Iterator["Range"]:
         if self.first < min(self.end, other.first):
@@ -37,20 +36,23 @@ class Segments:
     """Of each part of a file that was locked alike: where the last writer gave it up, and where the readers since did."""
 
     def __init__(self) -> None:
-        self.cuts = [0, END]
+        self.cuts = [0, BEHIND]
         self.writer: list[Point | None] = [None]
         self.readers: list[Point | None] = [None]
 
     def over(self, of: Range) -> range:
         """The parts of a range, which begin and end with it."""
-        for cut in (of.first, of.end):
-            at = bisect_left(self.cuts, cut)
-            if at == len(self.cuts) or self.cuts[at] != cut:
-                self.cuts.insert(at, cut)
-                self.writer.insert(at, self.writer[at - 1])
-                readers = self.readers[at - 1]
-                self.readers.insert(at, Point(readers.time, readers.who, dict(readers.of)) if readers else None)
-        return range(bisect_left(self.cuts, of.first), bisect_left(self.cuts, of.end))
+        first = self.cut(of.first)
+        return range(first, self.cut(of.end))
+
+    def cut(self, where: int) -> int:
+        """The number of the part that begins there."""
+        at = bisect_left(self.cuts, where)
+        if at == len(self.cuts) or self.cuts[at] != where:
+            self.cuts.insert(at, where)
+            self.writer.insert(at, self.writer[at - 1])
+            self.readers.insert(at, self.readers[at - 1])
+        return at
 
 
 class Locks:
@@ -92,7 +94,8 @@ class Locks:
             shared = old.meets(of)
             if shared is not None:
                 self.free(key, shared, wrote, point)
-            left += [(part, wrote) for part in old.without(of)]
+            if shared != old:
+                left += [(part, wrote) for part in old.without(of)]
         self.held[holder][key] = left
 
     def free(self, key: Key, of: Range, wrote: bool, point: Point) -> None:
@@ -101,7 +104,7 @@ class Locks:
         if wrote:
             # All of it is alike now.
             segments.cuts[parts.start + 1 : parts.stop] = []
-            segments.writer[parts.start : parts.stop] = [self.frontiers.both(None, point)]
+            segments.writer[parts.start : parts.stop] = [point]
             segments.readers[parts.start : parts.stop] = [None]
         else:
             for at in parts:

@@ -1,10 +1,11 @@
 """The calls of a log that order threads or make requests. A long log has many, so they are kept in columns, and of their words what counts."""
 
+import functools
 import heapq
 import re
 from array import array
 from collections.abc import Iterator, Sequence
-from dataclasses import dataclass
+from typing import NamedTuple
 
 READS = frozenset(("read", "readv", "recvfrom", "recvmsg", "recv"))
 WRITES = frozenset(("write", "writev", "sendto", "sendmsg", "send"))
@@ -15,135 +16,140 @@ SLEEPS = frozenset(("nanosleep", "clock_nanosleep", "sched_yield"))
 WAITS = frozenset(("wait4", "waitid", "waitpid"))
 KILLS = frozenset(("kill", "tgkill", "tkill"))
 FORKS = frozenset(("clone", "clone3", "vfork", "fork"))
+EXITS = frozenset(("exit", "exit_group"))
 OTHERS = frozenset((
-    "fcntl", "flock", "futex", "execve", "exit_group", "exit", "connect", "accept", "accept4", "splice", "sendfile", "close", "dup2", "dup3",
+    "fcntl", "flock", "futex", "execve", "connect", "accept", "accept4", "splice", "sendfile", "close", "dup2", "dup3",
 ))
 # The calls that order threads.
-CALLS = READS | WRITES | POLLS | SLEEPS | WAITS | KILLS | FORKS | OTHERS
+CALLS = READS | WRITES | POLLS | SLEEPS | WAITS | KILLS | FORKS | EXITS | OTHERS
 
 DESCRIPTOR = re.compile(r"\(?(\d{1,10})(?!\d)(?:<((?:->|[^<>])*)>)?")
-# The end of a thread, and a signal.
-MARKS = ("+++", "---")
-# What counts of the words of these is the descriptor that stands first, and of those nothing.
+# What counts of the words of these is the descriptor that stands first, and of those all.
 OF_DESCRIPTORS = READS | WRITES | {"accept", "accept4"}
-WITHOUT_WORDS = POLLS | SLEEPS | (WAITS - {"waitid"})
+WITH_WORDS = CALLS - OF_DESCRIPTORS - POLLS - SLEEPS - (WAITS - {"waitid"})
 
 
-@dataclass(slots=True)
-class Step:
-    """A call of a thread (or its end, `+++`, or a signal, `---`): whose it is, by its name, its number in the log, its process and its box;
-    the places and times of its beginning and its end, what it asked and answered, what stands behind the answer, and which requests it
-    made."""
+class Whose(NamedTuple):
+    """Whose a step is: a thread, its number in the log, its process and its box."""
 
     thread: str
     number: str
     process: str
     box: str
+
+
+class Asked(NamedTuple):
+    """A call (or the end of a thread, `+++`, or a signal, `---`): its name, what it asked and answered, and what stands behind the answer.
+    `count` is the number that it ended with, 0 where it is none: of bytes, or of threads that it woke."""
+
+    name: str
+    args: str
+    result: str
+    tail: str
+    has_failed: bool
+    count: int
+
+
+def asked_of(name: str, args: str, result: str, tail: str) -> Asked:
+    count = int(result) if result.isdecimal() and len(result) < 20 else 0
+    return Asked(name, args, result, tail, result == "?" or result.startswith("-"), count)
+
+
+class Step(NamedTuple):
+    """A call of a thread: the places and times of its beginning and its end, and which requests it made."""
+
+    whose: Whose
+    asked: Asked
     begun: int
     ended: int
     time: int
     end: int
-    name: str
-    args: str = ""
-    result: str = ""
-    tail: str = ""
-    requests: range = range(0)
-
-    @property
-    def has_failed(self) -> bool:
-        return self.result == "?" or self.result.startswith("-")
-
-    @property
-    def count(self) -> int:
-        """The number that it ended with, 0 where it is none: of bytes, or of threads that it woke."""
-        return int(self.result) if self.result.isdecimal() and len(self.result) < 20 else 0
-
-    def descriptor(self) -> tuple[int, str]:
-        """The first descriptor, -1 where there is none, and what strace shows of it."""
-        found = DESCRIPTOR.match(self.args)
-        return (int(found[1]), found[2] or "") if found else (-1, "")
+    requests: range
 
 
-@dataclass(frozen=True, slots=True)
-class Birth:
+class Birth(NamedTuple):
     """A thread that was made: by whom, in which call."""
 
     begun: int
-    thread: str
-    number: str
-    process: str
-    box: str
+    whose: Whose
     parent: str
 
 
 NO_REQUESTS = range(0)
 # Behind all places of a log.
 LAST = 1 << 62, 0, 0
-# Whose a step is: its thread, number, process and box.
-Whose = tuple[str, str, str, str]
+# What Steps.in_order tells of: a birth, or of a step the beginning, the end, or both at once.
+BIRTH, BEGIN, END, BOTH = range(4)
+
+
+@functools.lru_cache(maxsize=1 << 14)
+def descriptor_of(args: str) -> tuple[int, str]:
+    """The first descriptor, -1 where there is none, and what strace shows of it."""
+    found = DESCRIPTOR.match(args)
+    return (int(found[1]), found[2] or "") if found else (-1, "")
 
 
 def what_counts(name: str, args: str) -> str:
     """The arguments of a call, as far as they order threads."""
-    if name in OF_DESCRIPTORS:
-        found = DESCRIPTOR.match(args)
-        return args if found is not None and found[2] and "signalfd" in found[2] else found[0] if found else ""
-    return "" if name in WITHOUT_WORDS or name not in CALLS and name not in MARKS else args
+    if name in WITH_WORDS:
+        return args
+    found = DESCRIPTOR.match(args) if name in OF_DESCRIPTORS else None
+    if found is None:
+        return ""
+    return args if found[2] and "signalfd" in found[2] else found[0]
 
 
 class Steps:
     """Steps in the order of their ends."""
 
     def __init__(self) -> None:
-        # The places and times of their beginnings and ends; the first request of each, and how many it has. No time is above 2^64 ns.
-        self.begun, self.ended, self.first, self.count = (array("q") for _ in range(4))
+        # The places and times of their beginnings and ends. No time is above 2^64 ns.
+        self.begun, self.ended = array("q"), array("q")
         self.time, self.end = array("Q"), array("Q")
         self.whose: list[Whose] = []
-        # The name, the arguments, the result, and what stands behind it: the same texts come often.
-        self.words: tuple[list[str], list[str], list[str], list[str]] = ([], [], [], [])
-        self.same: dict[str, str] = {}
+        self.asked: list[Asked] = []
+        self.requests: list[range] = []
+        # The same calls come often.
+        self.alike: dict[tuple[str, str, str, str], Asked] = {}
 
-    def add(self, whose: Whose, places: tuple[int, int], times: tuple[int, int], words: tuple[str, str, str, str], requests: range) -> None:
+    def add(self, whose: Whose, begun: int, ended: int, time: int, end: int, words: tuple[str, str, str, str], requests: range) -> None:
+        asked = self.alike.get(words)
+        if asked is None:
+            asked = self.alike[words] = asked_of(*words)
         self.whose.append(whose)
-        self.begun.append(places[0])
-        self.ended.append(places[1])
-        self.time.append(times[0])
-        self.end.append(times[1])
-        same = self.same
-        for column, word in zip(self.words, words, strict=True):
-            column.append(same.setdefault(word, word))
-        self.first.append(requests.start)
-        self.count.append(requests.stop - requests.start)
+        self.asked.append(asked)
+        self.requests.append(requests or NO_REQUESTS)
+        self.begun.append(begun)
+        self.ended.append(ended)
+        self.time.append(time)
+        self.end.append(end)
 
     def __len__(self) -> int:
         return len(self.whose)
 
     def step(self, at: int) -> Step:
-        thread, number, process, box = self.whose[at]
-        names, args, results, tails = self.words
-        count, first = self.count[at], self.first[at]
-        return Step(
-            thread, number, process, box, self.begun[at], self.ended[at], self.time[at], self.end[at], names[at], args[at], results[at], tails[at],
-            range(first, first + count) if count else NO_REQUESTS,
-        )
+        return Step(self.whose[at], self.asked[at], self.begun[at], self.ended[at], self.time[at], self.end[at], self.requests[at])
 
-    def in_order(self, births: Sequence[Birth]) -> Iterator[tuple[bool, Step | Birth]]:
-        """Beginnings (False), births, and ends (True), in the order of the places of their lines; of one line in this order."""
+    def in_order(self, births: Sequence[Birth]) -> Iterator[tuple[int, Step | Birth]]:
+        """Beginnings, births, and ends, in the order of the places of their lines; of one line in this order, and both at once where
+        nothing is between them."""
         # Those that other lines stand in, and births, in the order in which they began.
         begun, ended = self.begun, self.ended
         open_ones = array("q", sorted((at for at in range(len(self)) if begun[at] < ended[at]), key=begun.__getitem__))
         long_ones: Iterator[tuple[int, int, int]] = ((begun[at], 0, at) for at in open_ones)
         others = iter(heapq.merge(long_ones, sorted((birth.begun, 1, at) for at, birth in enumerate(births))))
         place, kind, number = next(others, LAST)
-        for at in range(len(self)):
-            step = self.step(at)
-            for limit, is_end in ((step.begun, False), (step.ended + 1, True)):
-                if not is_end and step.begun < step.ended:
+        for step in map(Step, self.whose, self.asked, begun, ended, self.time, self.end, self.requests):
+            if step.begun == step.ended < place:
+                yield BOTH, step
+                continue
+            for limit, what in ((step.begun, BEGIN), (step.ended + 1, END)):
+                if what == BEGIN and step.begun < step.ended:
                     continue
                 while place < limit:
-                    yield False, births[number] if kind else self.step(number)
+                    yield BIRTH if kind else BEGIN, births[number] if kind else self.step(number)
                     place, kind, number = next(others, LAST)
-                yield is_end, step
+                yield what, step
         while place < LAST[0]:
-            yield False, births[number] if kind else self.step(number)
+            yield BIRTH if kind else BEGIN, births[number] if kind else self.step(number)
             place, kind, number = next(others, LAST)

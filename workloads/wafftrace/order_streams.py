@@ -1,6 +1,7 @@
 """Pipes and sockets: which bytes are read that were written where, in each direction."""
 
 import collections
+import functools
 import re
 from dataclasses import dataclass, field
 
@@ -20,6 +21,7 @@ MOST_READS, MOST_WRITES = 4096, 16384
 Channel = tuple[str, ...]
 
 
+@functools.lru_cache(maxsize=1 << 14)
 def channel_of(box: str, path: str, writes: bool) -> Channel | None:
     """The stream that a descriptor is of; None where it is of none with two known ends."""
     if PIPE.match(path):

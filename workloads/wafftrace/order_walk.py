@@ -1,6 +1,7 @@
 """The calls of a log in the order of their beginnings and ends: what each releases, and what it waits for."""
 
 import collections
+import functools
 import re
 import signal
 from bisect import bisect_right
@@ -9,8 +10,8 @@ from dataclasses import dataclass, field
 
 from .logs import Request
 from .order_frontier import START, Frontiers, Point, Thread
-from .order_locks import END, Holder, Key, Locks, Range
-from .order_steps import FORKS, KILLS, POLLS, READS, SLEEPS, WAITS, WRITES, Birth, Step, Steps
+from .order_locks import BEHIND, Holder, Key, Locks, Range
+from .order_steps import BEGIN, END, EXITS, FORKS, KILLS, POLLS, READS, SLEEPS, WAITS, WRITES, Birth, Step, Steps, descriptor_of
 from .order_streams import ALONE, Channel, Streams, channel_of
 
 # Why one waits for another, by the words of `--order`.
@@ -89,22 +90,23 @@ class Walk:
 
     def go(self, steps: Steps, births: Sequence[Birth]) -> None:
         """Takes beginnings, births and ends in the order of the places of their lines."""
-        for is_end, it in steps.in_order(births):
+        for what, it in steps.in_order(births):
             if isinstance(it, Birth):
                 self.born(it)
-            elif is_end:
-                self.end(it)
-            else:
+                continue
+            if what != END:
                 self.begin(it)
+            if what != BEGIN:
+                self.end(it)
 
     # Threads
 
-    def thread(self, step: Step) -> Thread:
-        found = self.threads.get(step.thread)
-        if found is None:
-            found = self.threads[step.thread] = Thread(step.thread, step.process, step.box, step.time)
-            found.own[START] = [(-1, step.time - self.frontiers.start)]
-            self.note(found, step.number)
+    def newcomer(self, step: Step) -> Thread:
+        """A thread that the log does not tell to be made."""
+        whose = step.whose
+        found = self.threads[whose.thread] = Thread(whose.thread, whose.process, whose.box, step.time)
+        found.own[START] = [(-1, step.time - self.frontiers.start)]
+        self.note(found, whose.number)
         return found
 
     def note(self, thread: Thread, number: str) -> None:
@@ -114,10 +116,10 @@ class Walk:
 
     def born(self, birth: Birth) -> None:
         parent = self.threads.get(birth.parent)
-        if parent is None or birth.thread in self.threads:
+        if parent is None or birth.whose.thread in self.threads:
             return
-        found = self.threads[birth.thread] = Thread(birth.thread, birth.process, birth.box, parent.last)
-        self.note(found, birth.number)
+        found = self.threads[birth.whose.thread] = Thread(birth.whose.thread, birth.whose.process, birth.whose.box, parent.last)
+        self.note(found, birth.whose.number)
         if not self.join(found, parent.here(), 0, "fork"):
             found.own[START] = [(-1, parent.last - self.frontiers.start)]
 
@@ -137,7 +139,7 @@ class Walk:
     def wait_for(self, thread: Thread, step: Step, points: Sequence[Point], kind: str) -> bool:
         """A call has ended that waited for these. Its time is a wait where the latest of them came after its beginning, else thinking."""
         counts = kind in self.kinds
-        latest = max((it.time for it in points if it.who != thread.name), default=None)
+        latest = max([it.time for it in points if it.who != thread.name], default=None)
         took = step.end - step.time
         is_known = counts and latest is not None and latest > step.time - SLACK
         if counts and latest is not None and thread.poll and latest > thread.poll[1]:
@@ -159,22 +161,27 @@ class Walk:
     # Beginnings
 
     def begin(self, step: Step) -> None:
-        thread = self.thread(step)
+        thread = self.threads.get(step.whose.thread) or self.newcomer(step)
         if step.time > thread.last:
             thread.clock += step.time - thread.last
             thread.last = step.time
-        if step.name == "+++":
+        name = step.asked.name
+        if name == "+++":
             return
         if step.requests:
             thread.poll = None
-            self.come_after_names(thread, step)
+            if self.named:
+                self.come_after_names(thread, step)
             self.frontiers.issue(thread, step.requests)
-        release = RELEASES.get(step.name)
-        thread.point = thread.here() if release is not None or step.name in ("exit", "exit_group") else None
-        if release is not None and thread.point is not None and (not step.has_failed or step.name == "connect"):
-            release(self, thread, step, thread.point)
-        elif step.name in ("exit", "exit_group"):
-            self.leave(thread, step.name == "exit_group")
+        thread.point = None
+        release = RELEASES.get(name)
+        if release is not None:
+            point = thread.point = thread.here()
+            if not step.asked.has_failed or name == "connect":
+                release(self, thread, step, point)
+        elif name in EXITS:
+            thread.point = thread.here()
+            self.leave(thread, name == "exit_group")
 
     def come_after_names(self, thread: Thread, step: Step) -> None:
         """A request that finds by its name what another thread made comes after that."""
@@ -186,68 +193,68 @@ class Walk:
 
     def give_up(self, thread: Thread, step: Step, point: Point) -> None:
         """A record lock is given up."""
-        if "F_UNLCK" in step.args:
-            number, path = step.descriptor()
-            self.locks.give_up((path, "record"), holder_of(step, number), range_of(step.args)[0], point)
+        if "F_UNLCK" in step.asked.args:
+            number, path = descriptor_of(step.asked.args)
+            self.locks.give_up((path, "record"), holder_of(step, number), range_of(step.asked.args)[0], point)
 
     def give_up_whole(self, thread: Thread, step: Step, point: Point) -> None:
-        if "LOCK_UN" in step.args:
-            number, path = step.descriptor()
-            self.locks.give_up((path, "flock"), (step.process, number), Range(), point)
+        if "LOCK_UN" in step.asked.args:
+            number, path = descriptor_of(step.asked.args)
+            self.locks.give_up((path, "flock"), (step.whose.process, number), Range(), point)
 
     def close(self, thread: Thread, step: Step, point: Point) -> None:
-        number, path = step.descriptor()
-        channel = channel_of(step.box, path, True)
+        number, path = descriptor_of(step.asked.args)
+        channel = channel_of(step.whose.box, path, True)
         if channel is not None:
             self.streams.close(channel, point)
         elif path:
-            self.locks.close(path, step.process, number, point)
+            self.locks.close(path, step.whose.process, number, point)
 
     def closed_by_copy(self, thread: Thread, step: Step, point: Point) -> None:
         """dup2 closes what was open under the second descriptor."""
-        found = DUPLICATED.search(step.args)
-        channel = channel_of(step.box, found[2], True) if found else None
+        found = DUPLICATED.search(step.asked.args)
+        channel = channel_of(step.whose.box, found[2], True) if found else None
         if channel is not None and len(channel) == 2:
             self.streams.close(channel, point)
 
     def wake(self, thread: Thread, step: Step, point: Point) -> None:
-        found = FUTEX.match(step.args)
-        if found and found[2].startswith("FUTEX_WAKE") and step.result.isdecimal():
+        found = FUTEX.match(step.asked.args)
+        if found and found[2].startswith("FUTEX_WAKE") and step.asked.result.isdecimal():
             key = futex_of(step, found)
             self.mutexes[key] = self.frontiers.both(self.mutexes.get(key), point)
             wakes = self.wakes[key]
-            wakes.append(Wake(step.begun, step.count, point))
+            wakes.append(Wake(step.begun, step.asked.count, point))
             del wakes[:-MOST_WAKES]
 
     def write(self, thread: Thread, step: Step, point: Point) -> None:
-        self.written(step, step.descriptor()[1], point)
+        self.written(step, descriptor_of(step.asked.args)[1], point)
 
     def splice(self, thread: Thread, step: Step, point: Point) -> None:
-        paths = SHOWN.findall(step.args)
+        paths = SHOWN.findall(step.asked.args)
         if len(paths) > 1:
-            self.written(step, paths[0] if step.name == "sendfile" else paths[1], point)
+            self.written(step, paths[0] if step.asked.name == "sendfile" else paths[1], point)
 
     def written(self, step: Step, path: str, point: Point) -> None:
-        channel = channel_of(step.box, path, True)
+        channel = channel_of(step.whose.box, path, True)
         if channel is not None:
-            self.streams.write(channel, step.process, step.count, point)
+            self.streams.write(channel, step.whose.process, step.asked.count, point)
         elif ALONE.match(path):
             self.tally.without_peer += 1
 
     def connect(self, thread: Thread, step: Step, point: Point) -> None:
-        found = CONNECT.search(step.args)
-        if found and (not step.has_failed or "EINPROGRESS" in step.tail):
-            self.connects[step.box, found[1] or found[2]].append(point)
+        found = CONNECT.search(step.asked.args)
+        if found and (not step.asked.has_failed or "EINPROGRESS" in step.asked.tail):
+            self.connects[step.whose.box, found[1] or found[2]].append(point)
 
     def kill(self, thread: Thread, step: Step, point: Point) -> None:
-        words = step.args.rstrip(") ").split(", ")
-        target = words[1] if step.name == "tgkill" and len(words) > 1 else words[0]
-        queue = self.kills[self.called(step.box, target.strip())]
+        words = step.asked.args.rstrip(") ").split(", ")
+        target = words[1] if step.asked.name == "tgkill" and len(words) > 1 else words[0]
+        queue = self.kills[self.called(step.whose.box, target.strip())]
         queue.append((words[-1].strip(), point))
         del queue[:-MOST_SIGNALS]
 
     def program(self, thread: Thread, step: Step, point: Point) -> None:
-        self.programs[step.thread] = self.programs[step.process] = point
+        self.programs[step.whose.thread] = self.programs[step.whose.process] = point
 
     def leave(self, thread: Thread, is_all: bool) -> None:
         """A thread ends, or its process."""
@@ -262,37 +269,41 @@ class Walk:
     # Ends
 
     def end(self, step: Step) -> None:
-        thread = self.thread(step)
-        if step.name == "+++":
+        thread, name = self.threads.get(step.whose.thread) or self.newcomer(step), step.asked.name
+        if name == "+++":
             if thread.name not in self.exits:
                 thread.point = None
                 self.leave(thread, False)
             return
-        if step.name == "---":
+        if name == "---":
             self.signalled(thread, step)
             return
         if step.requests:
             # The time of a request is no thinking.
             thread.last = max(thread.last, step.end)
-            for number in step.requests:
-                for what, key in self.named.get(number, ()):
-                    if what == "makes":
-                        self.makers[key] = number, thread.name
+            if self.named:
+                self.note_makers(thread, step)
             return
-        if not self.interrupted(thread, step):
-            acquire = ACQUIRES.get(step.name)
+        if not (step.asked.has_failed and self.interrupted(thread, step)):
+            acquire = ACQUIRES.get(name)
             if acquire is None or not acquire(self, thread, step):
                 thread.clock += step.end - step.time
                 self.not_explained(step)
         thread.last = max(thread.last, step.end)
 
+    def note_makers(self, thread: Thread, step: Step) -> None:
+        for number in step.requests:
+            for what, key in self.named.get(number, ()):
+                if what == "makes":
+                    self.makers[key] = number, thread.name
+
     def not_explained(self, step: Step) -> None:
-        if step.end - step.time > NOT_TOLD and step.name in ACQUIRES and step.name not in POLLS:
-            self.tally.unexplained[step.name] += step.end - step.time
+        if step.end - step.time > NOT_TOLD and step.asked.name in ACQUIRES and step.asked.name not in POLLS:
+            self.tally.unexplained[step.asked.name] += step.end - step.time
 
     def interrupted(self, thread: Thread, step: Step) -> bool:
         """A call that is begun again: what it waited for shows when it returns."""
-        if not step.has_failed or step.name not in BEGUN_AGAIN or not ("ERESTART" in step.tail or "EINTR" in step.tail):
+        if step.asked.name not in BEGUN_AGAIN or not ("ERESTART" in step.asked.tail or "EINTR" in step.asked.tail):
             return False
         took = step.end - step.time
         thread.clock += took
@@ -302,10 +313,10 @@ class Walk:
         return True
 
     def signalled(self, thread: Thread, step: Step) -> None:
-        found = SIGNAL.match(step.args)
+        found = SIGNAL.match(step.asked.args)
         if found is None:
             return
-        name, sender = found[1], self.called(step.box, found[2])
+        name, sender = found[1], self.called(step.whose.box, found[2])
         if name == "SIGCHLD" and thread.poll and sender in self.ends:
             self.wait_for(thread, step, [self.ends[sender]], "wait")
             return
@@ -321,21 +332,21 @@ class Walk:
 
     def lock(self, thread: Thread, step: Step) -> bool:
         """A record lock that was tried for, or taken."""
-        if "_SETLK" not in step.args or "F_UNLCK" in step.args:
+        if "_SETLK" not in step.asked.args or "F_UNLCK" in step.asked.args:
             return False
-        number, path = step.descriptor()
-        of, kind = range_of(step.args)
+        number, path = descriptor_of(step.asked.args)
+        of, kind = range_of(step.asked.args)
         return self.locked(thread, step, (path, "record"), holder_of(step, number), of, kind == "F_WRLCK")
 
     def lock_whole(self, thread: Thread, step: Step) -> bool:
-        if "LOCK_UN" in step.args:
+        if "LOCK_UN" in step.asked.args:
             return False
-        number, path = step.descriptor()
-        return self.locked(thread, step, (path, "flock"), (step.process, number), Range(), "LOCK_EX" in step.args)
+        number, path = descriptor_of(step.asked.args)
+        return self.locked(thread, step, (path, "flock"), (step.whose.process, number), Range(), "LOCK_EX" in step.asked.args)
 
     def locked(self, thread: Thread, step: Step, key: Key, holder: Holder, of: Range, writes: bool) -> bool:
-        if step.has_failed:
-            if "EAGAIN" in step.tail or "EACCES" in step.tail:
+        if step.asked.has_failed:
+            if "EAGAIN" in step.asked.tail or "EACCES" in step.asked.tail:
                 thread.tries = True
             return False
         thread.tries = False
@@ -345,14 +356,14 @@ class Walk:
         return True
 
     def futex(self, thread: Thread, step: Step) -> bool:
-        found = FUTEX.match(step.args)
+        found = FUTEX.match(step.asked.args)
         if found is None or not found[2].startswith("FUTEX_WAIT"):
             return False
         value, is_bitset = found[4] or "", "BITSET" in found[2]
-        ended = self.exits.get(self.called(step.box, value)) if is_bitset else None
+        ended = self.exits.get(self.called(step.whose.box, value)) if is_bitset else None
         if ended is not None:
             return self.wait_for(thread, step, [ended], "futex")
-        if step.has_failed and "EAGAIN" not in step.tail:
+        if step.asked.has_failed and "EAGAIN" not in step.asked.tail:
             return False
         key = futex_of(step, found)
         if value == CONTENDED and not is_bitset:
@@ -363,7 +374,7 @@ class Walk:
     def woken(self, thread: Thread, step: Step, key: tuple[str, str]) -> Point | None:
         """Where the call was made that woke this one: the first with a waiter left, or where the value had changed before the last one."""
         wakes = self.wakes[key]
-        if step.has_failed:
+        if step.asked.has_failed:
             return next((it.point for it in reversed(wakes) if it.begun < step.ended and it.point.who != thread.name), None)
         for at in range(bisect_right(wakes, step.begun, key=lambda it: it.begun), len(wakes)):
             if wakes[at].left > 0:
@@ -372,31 +383,31 @@ class Walk:
         return None
 
     def receive(self, thread: Thread, step: Step) -> bool:
-        if step.has_failed or step.name == "sendfile":
+        if step.asked.has_failed or step.asked.name == "sendfile":
             return False
-        path = step.descriptor()[1]
-        if step.name == "splice":
-            path = next(iter(SHOWN.findall(step.args)), "")
+        path = descriptor_of(step.asked.args)[1]
+        if step.asked.name == "splice":
+            path = next(iter(SHOWN.findall(step.asked.args)), "")
         if "signalfd" in path:
             return self.told_of_signal(thread, step)
-        channel = channel_of(step.box, path, False)
+        channel = channel_of(step.whose.box, path, False)
         if channel is None:
             self.tally.without_peer += ALONE.match(path) is not None
             return False
-        points = self.streams.take(channel, step.count)
+        points = self.streams.take(channel, step.asked.count)
         is_known = bool(points) and self.wait_for(thread, step, points, kind_of(channel))
-        if step.count:
+        if step.asked.count:
             here = thread.here()
-            self.streams.note_read(channel, Point(step.end, here.who, here.of))
+            self.streams.note_read(channel, Point(step.end, here.who, here.of, here.clock))
         return is_known
 
     def told_of_signal(self, thread: Thread, step: Step) -> bool:
         """A read of a signalfd: the first signal of its number that this sender sent. Those of one number do not queue up."""
-        text = TEXT.search(step.args)
+        text = TEXT.search(step.asked.args)
         raw = ESCAPED.sub(lambda it: chr(int(it[1], 8)) if it[1][0] in "01234567" else LETTERS.get(it[1], it[1]), text[1]) if text else ""
         if len(raw) < SENDER_AT + 4:
             return False
-        number, sender = ord(raw[0]), self.called(step.box, str(sum(ord(raw[SENDER_AT + n]) << 8 * n for n in range(4))))
+        number, sender = ord(raw[0]), self.called(step.whose.box, str(sum(ord(raw[SENDER_AT + n]) << 8 * n for n in range(4))))
         queue = self.kills.get(thread.name) or self.kills.get(thread.process) or []
         alike = [it for it in queue if NUMBERS.get(it[0]) == number]
         sent = next((it for it in alike if it[1].who == sender), None)
@@ -408,40 +419,40 @@ class Walk:
 
     def send(self, thread: Thread, step: Step) -> bool:
         """A write to a pipe that was full waits for the read that made room."""
-        channel = channel_of(step.box, step.descriptor()[1], True)
-        if step.has_failed or channel is None or len(channel) != 2 or step.end - step.time < NO_WAIT:
+        channel = channel_of(step.whose.box, descriptor_of(step.asked.args)[1], True)
+        if step.asked.has_failed or channel is None or len(channel) != 2 or step.end - step.time < NO_WAIT:
             return False
         point = self.streams.room(channel)
         return point is not None and self.wait_for(thread, step, [point], "pipe")
 
     def wait(self, thread: Thread, step: Step) -> bool:
-        if step.has_failed:
+        if step.asked.has_failed:
             return False
-        number = step.result
-        if step.name == "waitid":
-            found = SENDER.search(step.args)
+        number = step.asked.result
+        if step.asked.name == "waitid":
+            found = SENDER.search(step.asked.args)
             number = found[1] if found else "0"
-        ended = self.ends.get(self.called(step.box, number)) if number != "0" else None
+        ended = self.ends.get(self.called(step.whose.box, number)) if number != "0" else None
         return ended is not None and self.wait_for(thread, step, [ended], "wait")
 
     def forked(self, thread: Thread, step: Step) -> bool:
         """vfork ends when the child has another program, or none any more."""
-        if step.has_failed or step.name != "vfork" and "VFORK" not in step.args:
+        if step.asked.has_failed or step.asked.name != "vfork" and "VFORK" not in step.asked.args:
             return False
-        child = self.called(step.box, step.result)
+        child = self.called(step.whose.box, step.asked.result)
         point = self.programs.get(child) or self.ends.get(child)
         return point is not None and self.wait_for(thread, step, [point], "fork")
 
     def accept(self, thread: Thread, step: Step) -> bool:
-        found = ACCEPT.search(step.descriptor()[1])
-        queue = self.connects.get((step.box, found[1] or found[2])) if found and not step.has_failed else None
+        found = ACCEPT.search(descriptor_of(step.asked.args)[1])
+        queue = self.connects.get((step.whose.box, found[1] or found[2])) if found and not step.asked.has_failed else None
         return bool(queue) and queue is not None and self.wait_for(thread, step, [queue.popleft()], "socket")
 
     def poll(self, thread: Thread, step: Step) -> bool:
         """Its time is thinking, until what it polled for shows."""
         took = step.end - step.time
         thread.clock += took
-        has_found = "EINTR" in step.tail or "ERESTART" in step.tail or not step.has_failed and step.result != "0"
+        has_found = "EINTR" in step.asked.tail or "ERESTART" in step.asked.tail or not step.asked.has_failed and step.asked.result != "0"
         thread.poll = (took, step.time) if has_found else None
         self.tally.unexplained["poll"] += took
         return True
@@ -460,21 +471,22 @@ def kind_of(channel: Channel) -> str:
 
 def holder_of(step: Step, descriptor: int) -> Holder:
     """Whose a record lock is: the process's, or of F_OFD_SETLK the descriptor's."""
-    return step.process, descriptor if "F_OFD" in step.args else -1
+    return step.whose.process, descriptor if "F_OFD" in step.asked.args else -1
 
 
+@functools.lru_cache(maxsize=1 << 14)
 def range_of(args: str) -> tuple[Range, str]:
     """The bytes of a record lock, and its kind. One that does not begin at a place of the file is of the whole file."""
     found = LOCK.search(args)
     if found is None or found[2] != "SEEK_SET" or int(found[3]) < 0:
         return Range(), found[1] if found else ""
-    first, length = min(int(found[3]), END - 1), int(found[4])
-    return Range(first, min(first + length, END) if length else END), found[1]
+    first, length = min(int(found[3]), BEHIND - 1), int(found[4])
+    return Range(first, min(first + length, BEHIND) if length else BEHIND), found[1]
 
 
 def futex_of(step: Step, found: re.Match[str]) -> tuple[str, str]:
     """Where a futex is: an address of a process, or of all that share it."""
-    return step.process if "PRIVATE" in found[2] + found[3] else step.box, found[1]
+    return step.whose.process if "PRIVATE" in found[2] + found[3] else step.whose.box, found[1]
 
 
 # What is done at the beginning of a call, and at its end: True where it says what became of its time.

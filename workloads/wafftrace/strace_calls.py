@@ -1,11 +1,12 @@
 """The calls of a log of strace: whose each is, which process made which, and what a call asked and answered when it returns."""
 
 import collections
-import re
 from collections.abc import Iterable
 
 from .logs import Lines, Refusal
 from .order import Record
+from .order_steps import CALLS as ORDERED
+from .order_steps import what_counts
 from .processes import FORKED, FORKS, RESUMED, UNFINISHED, Birth, Children, Event, Process, Who, nanoseconds, parted
 from .strace_names import SAY_FOLDER, Call, absolute
 from .strace_requests import CALLS, Requests
@@ -78,7 +79,7 @@ class Calls:
         elif rest.startswith(("+++ ", "--- ")):
             self.log.without["signals and ends of processes"] += 1
             if self.order is not None:
-                self.order.line(process.who, pid, process.box, at, time, rest)
+                self.order.line(self.order.of(process.who, pid, process.box), at, time, rest)
             if rest.startswith("+++ "):
                 self.children.ended(process.who)
                 if process.pending is not None:
@@ -128,28 +129,34 @@ class Calls:
         args, tail = parted(args) if bracket else ("", None)
         if tail is None:
             return False
-        before = len(self.requests.requests)
-        is_understood = self.returned(at, process, time, name, args, tail)
-        if self.order is not None:
-            took = nanoseconds(tail[4], tail[5]) if tail[5] else 0
-            what = name, args, tail[1], tail[3]
-            self.order.call(process.who, pid, process.box, (begun, at), (time, took), what, range(before, len(self.requests.requests)))
+        result, path, behind, seconds, digits = tail.groups()
+        took = nanoseconds(seconds, digits) if digits else None
+        if self.order is None:
+            return self.returned(at, process, name, args, (result, path), (time, took))
+        made = self.requests.requests
+        before = len(made)
+        is_understood = self.returned(at, process, name, args, (result, path), (time, took))
+        if name in ORDERED or len(made) > before:
+            words = name, what_counts(name, args), result, behind
+            whose = self.order.of(process.who, pid, process.box)
+            self.order.call(whose, begun, at, time, time + (took or 0), words, range(before, len(made)))
         return is_understood
 
-    def returned(self, at: int, process: Process, time: int, name: str, args: str, tail: re.Match[str]) -> bool:
-        result, path, _, seconds, digits = tail.groups()
-        handler = CALLS.get(name)
+    def returned(
+        self, at: int, process: Process, name: str, args: str, answer: tuple[str, str | None], times: tuple[int, int | None]
+    ) -> bool:
+        """Takes a call by its answer and the path of that, when it began and how long it took."""
+        handler, result = CALLS.get(name), answer[0]
         if handler is None and name not in FORKS:
             self.requests.idle[name] += 1
         elif result == "?" or result[0] == "-":
             self.log.without["calls that failed"] += 1
         else:
-            took = nanoseconds(seconds, digits) if digits else None
-            answer = int(result, 16 if result.startswith("0x") else 10)
+            number = int(result, 16 if result.startswith("0x") else 10)
             if handler is None:
-                self.fork(at, process, args, answer)
+                self.fork(at, process, args, number)
                 return True
-            return handler(self.requests, Call(process, args, answer, absolute(path), time, took)) is not False
+            return handler(self.requests, Call(process, args, number, absolute(answer[1]), *times)) is not False
         return True
 
     def fork(self, at: int, process: Process, args: str, answer: int) -> None:

@@ -262,11 +262,11 @@ def tried(asked: Namespace, tree: Tree, spaces: list[str], sources: list[Source]
     row, (count, unit), best = found[0]
     if asked.write:
         write_file(asked.write, best.text())
+    tell_pricings(asked, sources, (tree, first), (best, row), key)
     tell_held(asked, tree, best, key)
     name = f"{many(count, 'stripe', 'stripes')} of unit {unit}"
     if key(row) >= key(first):
         name = f"the tree as it is; the best of the others is {name}"
-    tell_pricings(asked, sources, (tree, first), (best, row), key)
     tell(f"the best by {deciding(asked, by)} is {name}: {gain(asked, by, row, first)}{written(asked)}")
     return "\n".join(lines) + "\n"
 
@@ -400,10 +400,11 @@ def searched(asked: Namespace, tree: Tree, spaces: list[str], sources: list[Sour
     best = best_of(made, steps)
     if asked.write:
         write_file(asked.write, best.tree.text())
-    tell(f"{many(made.ranker.count, 'tree was', 'trees were')} planned")
-    tell_held(asked, tree, best.tree, order(by, asked.over))
+    # Whether it holds comes first of what is told of the tree that was found.
     if is_done:
         tell_pricings(asked, sources, (tree, first), (best.tree, best.row), order(by, asked.over))
+    tell(f"{many(made.ranker.count, 'tree was', 'trees were')} planned")
+    tell_held(asked, tree, best.tree, order(by, asked.over))
     told_best = f"the best by {deciding(asked, by)} is {tree_found(asked, made, best, first, by)}"
     tell(f"{told_best}{written(asked)}{floor(asked, best.row, floors)}")
     if asked.curve:
