@@ -1,17 +1,11 @@
 -- The least plan is the one in which each message starts as soon as it may.
-use Rattle.std.proofs.Common.{◌≡◌, ℕ, zero, suc, ◌≤◌, Option, Some, None, option_map, inl, inr, arith, refl}
+use Rattle.std.proofs.Common.{◌≡◌, ℕ, zero, suc, ◌≤◌, inl, inr, arith}
 use Rattle.waff_assign.specs.Order.{Relation}
-use Rattle.waff_plan.specs.Work.{Work, IsNumber, finish_of, issue_after}
+use Rattle.waff_plan.specs.Work.{Work, IsNumber, finish_of}
 use Rattle.waff_plan.specs.Obeys.{IsLinked, IsForward, Obeys, IsLeast}
 use Rattle.waff_plan.specs.AtOnce.{AllStartAtOnce}
-use Rattle.waff_plan.proofs.Holding.{floor-le-issue, held-le}
+use Rattle.waff_plan.proofs.Holding.{floor-le-issue, held-le, issue_sooner}
 use Rattle.waff_plan.proofs.Chains.{least_is_earliest}
-
--- what follows a message that finishes no later is issued no later
-issue_sooner : (finish other : ℕ → ℕ) (release think : ℕ) (follows : Option ℕ) → ((f : ℕ) → follows ≡ Some f → finish f ≤ other f)
-    → issue_after release think (option_map finish follows) ≤ issue_after release think (option_map other follows)
-issue_sooner finish other release think None sooner = omega arith
-issue_sooner finish other release think (Some f) sooner = omega (arith, sooner f refl)
 
 module _ (before : Relation) (work : Work) (start : ℕ → ℕ) (forward : IsForward before work) where
   module _ (all : AllStartAtOnce before work start) (other : ℕ → ℕ) (obeys : Obeys before work other) where
@@ -25,7 +19,7 @@ module _ (before : Relation) (work : Work) (start : ℕ → ℕ) (forward : IsFo
         (all m number).greatest (other m)
         (omega (
           arith,
-          issue_sooner (finish_of work start) (finish_of work other) (work.floor m) (work.think m) (work.follows m) (λ f follow. sooner f (inr follow)),
+          issue_sooner (finish_of work start) (finish_of work other) (work.floor m) (work.awaits m) (λ i awaited. sooner i (inr awaited)),
           obeys.issued m number,
         ))
         (λ i pair. omega (arith, sooner i (inl pair), obeys.ordered i m pair))

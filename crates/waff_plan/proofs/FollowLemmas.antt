@@ -1,55 +1,55 @@
--- The messages that follow others, one message after another.
-use Rattle.std.proofs.Common.{◌≡◌, ◌≢◌, ℕ, zero, suc, ◌-◌, ◌<◌, ◌≤◌, inl, inr, List, length, get_or, set, Some, None, arith, refl, sym, ◌∙◌, ap}
-use Rattle.std.proofs.lemmas.Bool.{cases_eq}
-use Rattle.std.proofs.lemmas.List.{get_or-set_same, get_or-set_other}
-use Rattle.std.proofs.lemmas.Option.{none-some, same_Some}
-use Rattle.waff_plan.specs.Work.{Work}
-use Rattle.waff_plan.specs.Obeys.{FollowsEarlier, FollowsOnce}
-use Rattle.waff_plan.specs.Timing.{some_number}
-use Rattle.waff_plan.specs.Pending.{AreFollowers}
+-- What messages await, where each awaits the one before it of its client at most.
+use Rattle.std.proofs.Common.{◌≡◌, ◌≢◌, ℕ, zero, suc, ◌-◌, ◌+◌, ◌<◌, ◌≤◌, inl, inr, eqb, cond, max, List, [], ◌∷◌, length, get_or, set, arith, refl, sym, ◌∙◌, ap, subst}
+use Rattle.std.proofs.lemmas.Bool.{cases_eq, cond_both}
+use Rattle.waff_plan.specs.Work.{Await, IsAwaited, Work, gap_after, issue_after}
+use Rattle.waff_plan.specs.Obeys.{AwaitsEarlier}
+use Rattle.waff_plan.specs.Timing.{await_of, timing_of, work_of}
+use Rattle.waff_plan.specs.declared.timing.Timing.{Timing}
 
-pub followed_some : (n : ℕ) → n ≢ 0 → some_number n ≡ Some n
-followed_some zero some = absurd (some refl)
-followed_some (suc n) some = refl
+-- what follows another awaits that one, and what follows none awaits none
+pub awaits_one : (n think : ℕ) → n ≢ 0 → await_of n think ≡ record { message = n; gap = think } ∷ []
+awaits_one zero think some = absurd (some refl)
+awaits_one (suc n) think some = refl
 
-pub followed_none : (n : ℕ) → n ≡ 0 → some_number n ≡ None
-followed_none n none = ap some_number none
+pub awaits_none : (n think : ℕ) → n ≡ 0 → await_of n think ≡ []
+awaits_none n think none = ap (λ k. await_of k think) none
 
--- a number is that of the message that it says
-pub some_number_is : (n i : ℕ) → some_number n ≡ Some i → n ≡ i
-some_number_is zero i is = absurd (none-some i is)
-some_number_is (suc n) i is = same_Some (suc n) i is
+pub awaits_it : (n think : ℕ) → n ≢ 0 → IsAwaited (await_of n think) n
+awaits_it n think some = subst (λ awaits. IsAwaited awaits n) (sym (awaits_one n think some)) (inl refl)
 
-module _ (work : Work) (earlier : FollowsEarlier work) (once : FollowsOnce work) (followers : List ℕ) (m : ℕ) (from : 1 ≤ m) (are : AreFollowers work (m - 1) followers) where
-  -- one more message, which follows none
-  pub followers_same : work.follows m ≡ None → AreFollowers work m followers
-  followers_same none i number = record {
-    follows = (are i number).follows;
-    all = λ n among follow. elim (cases_eq n m) [
-      | inl here ↦ absurd (none-some i (sym none ∙ ap work.follows (sym here) ∙ follow))
-      | inr other ↦ (are i number).all n (record { from = among.from; to = omega (arith, among.to, other) }) follow
-    ];
-  }
+-- what is awaited is the one that is followed
+pub awaited_is : (n think i : ℕ) → IsAwaited (await_of n think) i → n ≡ i
+awaited_is zero think i never = absurd never
+awaited_is (suc n) think i (inl same) = same
+awaited_is (suc n) think i (inr never) = absurd never
 
-  -- one more message, which follows message f
-  pub followers_more : (f : ℕ) → work.follows m ≡ Some f → f - 1 < length followers → AreFollowers work m (set followers (f - 1) m)
-  followers_more f follow within i number = elim (cases_eq i f) [
-    | inl here ↦
-        let at : get_or (set followers (f - 1) m) (i - 1) 0 ≡ m
-        = ap (λ x. get_or (set followers (f - 1) m) (x - 1) 0) here ∙ get_or-set_same followers (f - 1) m 0 within in
-        record {
-          follows = λ some. ap work.follows at ∙ follow ∙ ap Some (sym here);
-          all = λ n among other. at ∙ once f m n follow (other ∙ ap Some here);
-        }
-    | inr there ↦
-        let sooner = earlier f m follow in
-        let at : get_or (set followers (f - 1) m) (i - 1) 0 ≡ get_or followers (i - 1) 0
-        = get_or-set_other followers (f - 1) (i - 1) m 0 (λ same. there (omega (arith, same, number.from, sooner.from))) in
-        record {
-          follows = λ some. ap work.follows at ∙ (are i number).follows (λ zero. some (at ∙ zero));
-          all = λ n among other. elim (cases_eq n m) [
-            | inl here ↦ absurd (there (sym (same_Some f i (sym follow ∙ ap work.follows (sym here) ∙ other))))
-            | inr not_here ↦ at ∙ (are i number).all n (record { from = among.from; to = omega (arith, among.to, not_here) }) other
-          ];
-        }
-  ]
+pub awaited_some : (n think i : ℕ) → IsAwaited (await_of n think) i → n ≢ 0
+awaited_some zero think i never = absurd never
+awaited_some (suc n) think i awaited = λ none. omega (arith, none)
+
+-- the gap after it is the think time, and none is more
+pub gap_within : (n think i : ℕ) → gap_after i (await_of n think) ≤ think
+gap_within zero think i = omega arith
+gap_within (suc n) think i =
+    cond_both (eqb (suc n) i) think 0 (λ gap. max gap 0 ≤ think) (λ same. omega arith) (λ other. omega arith)
+
+-- the issue of what follows another, and of what follows none
+pub issue_after_one : (finish : ℕ → ℕ) (floor n think : ℕ) → n ≢ 0 → issue_after finish floor (await_of n think) ≡ max floor (finish n + think)
+issue_after_one finish floor n think some = ap (issue_after finish floor) (awaits_one n think some) ∙ swap
+  where
+    swap : max (finish n + think) floor ≡ max floor (finish n + think)
+    swap = omega arith
+
+pub issue_after_none : (finish : ℕ → ℕ) (floor n think : ℕ) → n ≡ 0 → issue_after finish floor (await_of n think) ≡ floor
+issue_after_none finish floor n think none = ap (issue_after finish floor) (awaits_none n think none)
+
+-- what a message follows comes earlier
+pub follows_earlier : (timings : List Timing) → AwaitsEarlier (work_of timings) → (m : ℕ) → 1 ≤ m → (timing_of timings m).follows < m
+follows_earlier timings earlier m from = elim (cases_eq (timing_of timings m).follows 0) [
+  | inl none ↦ omega (arith, none, from)
+  | inr some ↦ (earlier (timing_of timings m).follows m (awaits_it (timing_of timings m).follows (timing_of timings m).think some)).earlier
+]
+
+-- where none is awaited
+pub none_awaited : (awaits : List Await) (i : ℕ) → awaits ≡ [] → IsAwaited awaits i → ⊥
+none_awaited awaits i none awaited = subst (λ x. IsAwaited x i) none awaited

@@ -1,13 +1,13 @@
--- The ordered pairs of a trace go forward, where a message follows only earlier ones.
+-- The ordered pairs of a trace go forward, where a message awaits only earlier ones.
 use Rattle.std.proofs.Common.{◌≡◌, ℕ, List, length, inl, inr, subst, ◌<◌, ◌≤◌, arith}
 use Rattle.waff_model.specs.Tree.{Node}
 use Rattle.waff_assign.specs.Order.{IsOrdered}
 use Rattle.waff_plan.specs.Work.{Work}
 use Rattle.waff_plan.specs.Timing.{work_of}
 use Rattle.waff_plan.specs.declared.timing.Timing.{Timing}
-use Rattle.waff_plan.specs.Obeys.{IsLinked, IsForward, FollowsEarlier}
+use Rattle.waff_plan.specs.Obeys.{IsLinked, IsForward, AwaitsEarlier}
 
-pub IsOrdered_forward : (tree : List Node) (assigned : List ℕ) (work : Work) → length assigned ≡ work.count → FollowsEarlier work
+pub IsOrdered_forward : (tree : List Node) (assigned : List ℕ) (work : Work) → length assigned ≡ work.count → AwaitsEarlier work
     → IsForward (IsOrdered tree assigned) work
 IsOrdered_forward tree assigned work same follows =
     let pair = λ (i m : ℕ) (linked : IsLinked (IsOrdered tree assigned) work i m).
@@ -26,5 +26,5 @@ IsOrdered_forward tree assigned work same follows =
 
 -- so do those of timings
 pub timings_forward : (tree : List Node) (assigned : List ℕ) (timings : List Timing) → length assigned ≡ length timings
-    → FollowsEarlier (work_of timings) → IsForward (IsOrdered tree assigned) (work_of timings)
+    → AwaitsEarlier (work_of timings) → IsForward (IsOrdered tree assigned) (work_of timings)
 timings_forward tree assigned timings same follows = IsOrdered_forward tree assigned (work_of timings) same follows

@@ -1,5 +1,5 @@
 -- What is known while messages are taken in the order of issue.
-use Rattle.std.proofs.Common.{◌≡◌, ◌≢◌, ℕ, ◌+◌, ◌-◌, ◌*◌, ◌<◌, ◌≤◌, inl, inr, max, List, [], ◌∷◌, ◌++◌, length, set, Contains, Option, Some, None, option_map, MatchOption, All, arith, refl, sym, ◌∙◌, ap, subst}
+use Rattle.std.proofs.Common.{◌≡◌, ◌≢◌, ℕ, ◌+◌, ◌-◌, ◌*◌, ◌<◌, ◌≤◌, ◌⊎◌, inl, inr, max, true, List, [], ◌∷◌, ◌++◌, length, set, Contains, Option, Some, None, MatchOption, All, arith, refl, sym, ◌∙◌, ap, subst}
 use Rattle.std.specs.List.Sorted.{IsPermutation}
 use Rattle.std.proofs.lemmas.List.{get_or-set_same, get_or-set_other, length-set, length_push}
 use Rattle.std.proofs.lemmas.List.Elements.{Contains-push_cases}
@@ -7,19 +7,25 @@ use Rattle.waff_model.specs.Tree.{Node}
 use Rattle.waff_model.specs.declared.limits.TheConstants.{MAX_COST, MAX_MESSAGES, MAX_RELEASE, MAX_THINK, MAX_TICK}
 use Rattle.waff_model.specs.declared.preorder.Span.{Span}
 use Rattle.waff_assign.specs.Order.{affinity_of}
+use Rattle.waff_waits.specs.Times.{AreEach}
+use Rattle.waff_waits.specs.Waits.{IsFree, WhoWaits, waiting_for}
+use Rattle.waff_plan.specs.Awaiting.{AreAwaiting}
 use Rattle.waff_plan.specs.Waits.{wait_of}
-use Rattle.waff_plan.specs.Work.{Work, IsNumber, finish_of, issue_after, issue_of}
-use Rattle.waff_plan.specs.Obeys.{FollowsEarlier, FollowsOnce}
+use Rattle.waff_plan.specs.Work.{Work, IsNumber, finish_of, gap_of, issue_of, numbers}
+use Rattle.waff_plan.specs.Obeys.{AwaitsEarlier}
 use Rattle.waff_plan.specs.Order.{IsServiceKey, Key}
 use Rattle.waff_plan.specs.Due.{LeavesDue}
 use Rattle.waff_plan.specs.Pending.{Issue, AreFirst}
 use Rattle.waff_plan.specs.Table.{LatestTable, IsTable, IsLatestExcluding}
-use Rattle.waff_plan.specs.Timing.{IsTiming, no_timing, start_of, work_of}
+use Rattle.waff_plan.specs.Timing.{IsTiming, no_timing, start_of, timing_of, work_of}
 use Rattle.waff_plan.specs.declared.timing.Timing.{Timing}
 use Rattle.waff_plan.specs.declared.latest.Latest.{Latest}
 use Rattle.waff_plan.specs.declared.waits.Since.TheVariants.{Release}
-use Rattle.waff_plan.proofs.IssueFirst.{pending_first, put_cases, put_new, put_old, taken_none}
-use Rattle.waff_plan.proofs.IssueSteps.{AreTaken, ArePending, once_rest, once_put, order_finish, pending_from, rest_there, taken_more, untaken, untaken_all, untaken_less, x_there}
+use Rattle.waff_plan.proofs.AwaitingLemmas.{IsDue, each_due, each_free, taken_too, waiting_awaits}
+use Rattle.waff_plan.proofs.FollowLemmas.{gap_within}
+use Rattle.waff_plan.proofs.Holding.{issued_by}
+use Rattle.waff_plan.proofs.IssueFirst.{pending_first, taken_none}
+use Rattle.waff_plan.proofs.IssueSteps.{AreTaken, ArePending, apart_of, due_of, each_taken, order_finish, pending_from, taken_more, those, untaken, untaken_all, untaken_less, x_there}
 use Rattle.waff_plan.proofs.Tables.{table_again}
 
 -- no later than this is what is issued or has finished, after so many messages
@@ -30,39 +36,38 @@ late order = MAX_RELEASE + MAX_COST * length order + MAX_THINK * length order
 pub record IsSmall (work : Work) : Type 0 where
   pub cost : (m : ℕ) → IsNumber work m → work.cost m ≤ MAX_COST
   pub floor : (m : ℕ) → IsNumber work m → work.floor m ≤ MAX_RELEASE
-  pub think : (m : ℕ) → IsNumber work m → work.think m ≤ MAX_THINK
+  pub gap : (i m : ℕ) → IsNumber work m → gap_of work i m ≤ MAX_THINK
 
 pub small_work : (timings : List Timing) → All IsTiming timings → IsSmall (work_of timings)
 small_work timings small = record {
   cost = λ m number. (small (m - 1) no_timing (omega (arith, number.from, number.to))).cost;
   floor = λ m number. (small (m - 1) no_timing (omega (arith, number.from, number.to))).floor;
-  think = λ m number. (small (m - 1) no_timing (omega (arith, number.from, number.to))).think;
+  gap = λ i m number.
+      let timing = timing_of timings m in
+      let within = gap_within timing.follows timing.think i in
+      omega (arith, within, (small (m - 1) no_timing (omega (arith, number.from, number.to))).think);
 }
 
--- the issue of a message the one before which, where it follows one, has finished by then
-issue_soon : (finish : ℕ → ℕ) (release think by : ℕ) (follows : Option ℕ) → release ≤ by → think ≤ MAX_THINK → ((f : ℕ) → follows ≡ Some f → finish f ≤ by)
-    → issue_after release think (option_map finish follows) ≤ by + MAX_THINK
-issue_soon finish release think by None early small done = omega (arith, early)
-issue_soon finish release think by (Some f) early small done = omega (arith, early, small, done f refl)
-
 module _ (tree : List Node) (spans : List Span) (assigned : List ℕ) (work : Work) (key : Key) where
-  pub record IsGoing (starts order : List ℕ) (links : List (Option ℕ)) (left : ℕ) (issues : List Issue) (latests : LatestTable) : Type 0 where
+  pub record IsGoing (starts order : List ℕ) (links : List (Option ℕ)) (left : ℕ) (issues : List Issue) (waits : WhoWaits) (latests : LatestTable) : Type 0 where
     pub taken : AreTaken tree assigned work key (start_of starts) order links
     pub linked : length links ≡ work.count
     pub pending : ArePending work key (start_of starts) order issues
+    pub awaiting : AreAwaiting work order waits
     pub table : IsTable spans assigned (finish_of work (start_of starts)) order latests
     pub early : (i : ℕ) → Contains order i → finish_of work (start_of starts) i ≤ late order
     pub count : length starts ≡ work.count
     pub few : length order + left ≡ work.count
     pub enough : untaken work order ≤ left
 
-  pub going_first : (starts : List ℕ) (links : List (Option ℕ)) (left : ℕ) (first : List Issue) (table : LatestTable) → length starts ≡ work.count → length links ≡ work.count
-      → left ≡ work.count → AreFirst work key first
-      → IsTable spans assigned (finish_of work (start_of starts)) [] table → IsGoing starts [] links left first table
-  going_first starts links left first table count linked all are noted = record {
+  pub going_first : (starts : List ℕ) (links : List (Option ℕ)) (left : ℕ) (first : List Issue) (waits : WhoWaits) (table : LatestTable) → length starts ≡ work.count → length links ≡ work.count
+      → left ≡ work.count → AreFirst work key first → AreAwaiting work [] waits
+      → IsTable spans assigned (finish_of work (start_of starts)) [] table → IsGoing starts [] links left first waits table
+  going_first starts links left first waits table count linked all are awaiting noted = record {
     taken = taken_none tree assigned work key (start_of starts) links;
     linked = linked;
     pending = pending_first work key (start_of starts) first are;
+    awaiting = awaiting;
     table = noted;
     early = λ i there. absurd (omega (arith, there.1));
     count = count;
@@ -70,9 +75,9 @@ module _ (tree : List Node) (spans : List Span) (assigned : List ℕ) (work : Wo
     enough = omega (arith, untaken_all work, all);
   }
 
-  module _ (service : IsServiceKey work key) (follows : FollowsEarlier work) (once : FollowsOnce work) (few : work.count ≤ MAX_MESSAGES) (small : IsSmall work)
-      (starts order : List ℕ) (links : List (Option ℕ)) (left : ℕ) (pending rest : List Issue) (table : LatestTable) (x : Issue)
-      (going : IsGoing starts order links left pending table) (takes : LeavesDue pending x rest) where
+  module _ (service : IsServiceKey work key) (follows : AwaitsEarlier work) (few : work.count ≤ MAX_MESSAGES) (small : IsSmall work)
+      (starts order : List ℕ) (links : List (Option ℕ)) (left : ℕ) (pending rest : List Issue) (waits : WhoWaits) (table : LatestTable) (x : Issue)
+      (going : IsGoing starts order links left pending waits table) (takes : LeavesDue pending x rest) where
     abbrev m : ℕ
     m = x.1
 
@@ -85,23 +90,25 @@ module _ (tree : List Node) (spans : List Span) (assigned : List ℕ) (work : Wo
     there : Contains pending x
     there = x_there tree assigned work key service start start order pending rest x follows links going.taken going.pending takes.rest (λ i from other. refl)
 
+    due : (y : Issue) → Contains pending y → IsDue work order y.1
+    due = due_of tree assigned work key service start start order pending rest x follows links going.taken going.pending takes.rest (λ i from other. refl)
+
+    pub apart : Contains order m → ⊥
+    apart = apart_of tree assigned work key service start start order pending rest x follows links going.taken going.pending takes.rest (λ i from other. refl) x there
+
     pub m_number : IsNumber work m
-    m_number = going.pending.number x there
+    m_number = (due x there).0
 
     pub fewer : untaken work more < untaken work order
-    fewer = untaken_less work order m m_number (going.pending.apart x there)
+    fewer = untaken_less work order m m_number apart
 
     pub some_left : 1 ≤ left
     some_left = omega (arith, fewer, going.enough)
 
-    -- what it follows has a start
-    followed_early : (f : ℕ) → work.follows m ≡ Some f → finish_of work start f ≤ late order
-    followed_early f follow = going.early f (going.pending.after x f there follow)
-
     soon : issue_of work start m ≤ late order + MAX_THINK
     soon =
-        issue_soon (finish_of work start) (work.floor m) (work.think m) (late order) (work.follows m) (omega (arith, small.floor m m_number))
-        (small.think m m_number) followed_early
+        issued_by (finish_of work start) (work.floor m) (late order + MAX_THINK) (work.awaits m) (omega (arith, small.floor m m_number))
+        (λ i awaited. omega (arith, going.early i ((due x there).1 i awaited), small.gap i m m_number))
 
     module _ (s : ℕ) (latest : Option Latest) (found : IsLatestExcluding tree assigned (finish_of work start) order (affinity_of assigned m) latest)
         (starts_at : MatchOption latest (s ≡ issue_of work start m) (λ l. s ≡ max (issue_of work start m) l.finish)) where
@@ -170,54 +177,36 @@ module _ (tree : List Node) (spans : List Span) (assigned : List ℕ) (work : Wo
         taken_now =
             taken_more tree assigned work key service start later order pending rest x follows links going.taken going.pending takes.rest same s latest at_m found starts_at going.linked
 
-        -- no message follows the one that is taken
-        pub going_on : ((j : ℕ) → IsNumber work j → work.follows j ≡ Some m → ⊥) → IsGoing later_starts more links_more (left - 1) rest table_more
-        going_on none = record {
-          taken = taken_now;
-          linked = linked_more;
-          pending = pending_from tree assigned work key service start later order pending rest x follows links going.taken going.pending takes.rest same s latest at_m found starts_at
-              rest takes.least (λ y at. inl at) (λ y at. at) (λ j follow number. absurd (none j number follow))
-              (once_rest pending rest x takes.rest going.pending.once);
-          table = noted;
-          early = early_more;
-          count = length-set starts (m - 1) s ∙ going.count;
-          few = few_more;
-          enough = enough_more;
-        }
-          where
-            rest_at : (y : Issue) → Contains rest y → Contains pending y
-            rest_at = rest_there tree assigned work key service start later order pending rest x follows links going.taken going.pending takes.rest same
+        -- those that wait for it are told
+        module _ (pending_more : List Issue) (waits_more : WhoWaits)
+            (told : waits_more ≡ record { awaited = set waits.awaited (m - 1) []; finished = set waits.finished (m - 1) true })
+            (free : (entered taken : List ℕ) → ((d : ℕ) → Contains (waiting_for waits m) d → Contains entered d)
+            → AreEach (IsFree entered waits) (taken ++ those rest) → AreEach (IsFree entered waits_more) (taken ++ those pending_more))
+            (issued : (y : Issue) → Contains pending_more y → Contains rest y ⊎ (Contains (waiting_for waits m) y.1 × (y.0 ≡ key later y.1))) where
+          awaiting_more : AreAwaiting work more waits_more
+          awaiting_more = subst (AreAwaiting work more) (sym told) (taken_too work follows order waits going.awaiting m m_number)
 
-        -- the message that follows it is issued
-        pub going_next : (j issue : ℕ) (pending_more : List Issue) → IsNumber work j → work.follows j ≡ Some m → issue ≡ key later j
-            → IsPermutation ((issue, j) ∷ rest) pending_more → IsGoing later_starts more links_more (left - 1) pending_more table_more
-        going_next j issue pending_more number follow issue_is put =
-            let next : Issue = (issue, j) in
-            record {
-              taken = taken_now;
-              linked = linked_more;
-              pending = pending_from tree assigned work key service start later order pending rest x follows links going.taken going.pending takes.rest same s latest at_m found starts_at
-                  pending_more takes.least
-                  (λ y at. elim (put_cases next rest pending_more put y at) [
-                    | inl here ↦ inr (
-                      ap work.follows (ap (λ (z : Issue). z.1) (sym here)) ∙ follow,
-                      (subst (λ (z : Issue). z.0 ≡ key later z.1) here issue_is, subst (λ (z : Issue). IsNumber work z.1) here number),
-                    )
-                    | inr old ↦ inl old
-                  ])
-                  (λ y at. put_old next rest pending_more put y at)
-                  (λ n other known.
-                  let equal : j ≡ n = once m j n follow other in
-                  let this : next ≡ (key later n, n) = ap (λ e. (e, j)) issue_is ∙ ap (λ k. (key later k, k)) equal in
-                  subst (Contains pending_more) this (put_new next rest pending_more put))
-                  (once_put rest pending_more next put (once_rest pending rest x takes.rest going.pending.once) (λ y at equal.
-                  going.pending.apart x there (going.pending.after y m (rest_at y at) (ap work.follows equal ∙ follow))));
-              table = noted;
-              early = early_more;
-              count = length-set starts (m - 1) s ∙ going.count;
-              few = few_more;
-              enough = enough_more;
-            }
-          where
-            rest_at : (y : Issue) → Contains rest y → Contains pending y
-            rest_at = rest_there tree assigned work key service start later order pending rest x follows links going.taken going.pending takes.rest same
+          each_more : AreEach (IsDue work more) (more ++ those pending_more)
+          each_more =
+              each_due work follows more waits_more awaiting_more (more ++ those pending_more)
+              (free (numbers work) more (λ d waiting. going.awaiting.waits.only m d waiting)
+              (each_free work follows order waits going.awaiting (more ++ those rest) (each_taken (IsDue work order) order pending rest x takes.rest going.pending.each)))
+
+          pub going_on : IsGoing later_starts more links_more (left - 1) pending_more waits_more table_more
+          going_on = record {
+            taken = taken_now;
+            linked = linked_more;
+            pending = pending_from tree assigned work key service start later order pending rest x follows links going.taken going.pending takes.rest same s latest at_m found starts_at
+                pending_more takes.least
+                (λ y at. elim (issued y at) [
+                  | inl old ↦ inl old
+                  | inr new ↦ inr (waiting_awaits work follows order waits going.awaiting m y.1 m_number apart new.0, new.1)
+                ])
+                each_more;
+            awaiting = awaiting_more;
+            table = noted;
+            early = early_more;
+            count = length-set starts (m - 1) s ∙ going.count;
+            few = few_more;
+            enough = enough_more;
+          }

@@ -1,9 +1,9 @@
 -- The order of issue: it is total, a client's messages rise in it, and what it serves goes forward.
-use Rattle.std.proofs.Common.{◌≡◌, ℕ, ◌<◌, ◌≤◌, ◌⊎◌, inl, inr, List, [], Some, arith, ap}
+use Rattle.std.proofs.Common.{◌≡◌, ℕ, ◌<◌, ◌≤◌, ◌⊎◌, inl, inr, List, [], arith, ap}
 use Rattle.std.proofs.lemmas.Bool.{cases_lt, cases_order}
 use Rattle.waff_model.specs.Tree.{Node}
-use Rattle.waff_plan.specs.Work.{Work, IsNumber, issue_of}
-use Rattle.waff_plan.specs.Obeys.{IsForward, FollowsEarlier}
+use Rattle.waff_plan.specs.Work.{Work, IsAwaited, IsNumber, issue_of}
+use Rattle.waff_plan.specs.Obeys.{IsForward, AwaitsEarlier}
 use Rattle.waff_plan.specs.Issues.{IsIssuedBefore, IsServedBefore}
 use Rattle.waff_plan.specs.IssueLaws.{IssueIsArrival}
 use Rattle.waff_model.specs.declared.message.Version.TheVariants.{V3}
@@ -21,9 +21,9 @@ issued_on work start = keyed_on (issue_of work start)
 pub one_is_issued_first : (work : Work) (start : ℕ → ℕ) (i j : ℕ) → (i ≡ j) ⊎ (IsIssuedBefore work start i j ⊎ IsIssuedBefore work start j i)
 one_is_issued_first work start = one_is_keyed_first (issue_of work start)
 
-module _ (work : Work) (start : ℕ → ℕ) (issued : (m : ℕ) → IsNumber work m → issue_of work start m ≤ start m) (follows : FollowsEarlier work) where
-  -- along a client issue rises: a message is issued before the one that follows it
-  pub issue_rises : (i m : ℕ) → work.follows m ≡ Some i → IsIssuedBefore work start i m
+module _ (work : Work) (start : ℕ → ℕ) (issued : (m : ℕ) → IsNumber work m → issue_of work start m ≤ start m) (follows : AwaitsEarlier work) where
+  -- along what is awaited issue rises: a message is issued before those that await it
+  pub issue_rises : (i m : ℕ) → IsAwaited (work.awaits m) i → IsIssuedBefore work start i m
   issue_rises = follower_first [] [] work start (issue_of work start) issued follows ((service_key V3 work follows).rises start)
 
   -- what is served in the order of issue goes forward in that order

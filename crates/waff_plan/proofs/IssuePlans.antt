@@ -3,7 +3,7 @@ use Rattle.std.proofs.Common.{◌≡◌, ℕ, zero, suc, ◌+◌, ◌<◌, ◌�
 use Rattle.std.proofs.lemmas.Bool.{cases_lt, cases_eq}
 use Rattle.waff_model.specs.Tree.{Node}
 use Rattle.waff_plan.specs.Work.{Work, IsNumber}
-use Rattle.waff_plan.specs.Obeys.{IsLeast, IsLinked, FollowsEarlier, StartsIssued}
+use Rattle.waff_plan.specs.Obeys.{IsLeast, IsLinked, AwaitsEarlier, StartsIssued}
 use Rattle.waff_plan.specs.Order.{ComesBefore, IsServiceKey, Key, Serves}
 use Rattle.waff_plan.specs.Unique.{AreSame}
 use Rattle.waff_plan.proofs.Holding.{floor-le-issue, held_until, holds-same}
@@ -31,7 +31,7 @@ AgreeBefore work key start other t k = (i : ℕ) → IsNumber work i → IsDue (
 turned : (work : Work) (key : Key) (start other : ℕ → ℕ) (t k : ℕ) → AgreeBefore work key start other t k → AgreeBefore work key other start t k
 turned work key start other t k agree i number due = sym (agree i number (elim due [ inl a ↦ inr a | inr b ↦ inl b ]))
 
-module _ (tree : List Node) (assigned : List ℕ) (work : Work) (key : Key) (follows : FollowsEarlier work) (service : IsServiceKey work key) where
+module _ (tree : List Node) (assigned : List ℕ) (work : Work) (key : Key) (follows : AwaitsEarlier work) (service : IsServiceKey work key) where
   -- what is due in one of the plans, or is the next message there, is issued at one tick in both
   due_issue : (start other : ℕ → ℕ) → StartsIssued work start → (t k : ℕ) → AgreeBefore work key start other t k
       → (m : ℕ) → ((i : ℕ) → ComesBefore (key start) i m → IsDue (key start) t k i) → key start m ≡ key other m

@@ -1,29 +1,32 @@
 -- The unlimited plan in the order of issue, one message after another.
-use Rattle.std.proofs.Common.{◌≡◌, ◌≢◌, ℕ, zero, suc, ◌+◌, ◌-◌, ◌<◌, ◌≤◌, ◌==◌, ◌⊎◌, inl, inr, max, Bool, true, cond, List, [], ◌∷◌, ◌++◌, length, get_or, set, count_by, sum_by, Contains, Option, Some, None, MatchOption, arith, refl, sym, ◌∙◌, ap, subst}
+use Rattle.std.proofs.Common.{◌≡◌, ◌≢◌, ℕ, zero, suc, ◌+◌, ◌-◌, ◌<◌, ◌≤◌, ◌==◌, ◌⊎◌, inl, inr, max, Bool, true, cond, List, [], ◌∷◌, ◌++◌, length, map, get_or, set, count_by, sum_by, Contains, Option, Some, None, MatchOption, arith, refl, sym, ◌∙◌, ap, subst}
 use Rattle.std.specs.List.{list_any}
 use Rattle.std.specs.List.Sorted.{IsPermutation}
 use Rattle.std.specs.Prelude.{nat_eq}
 use Rattle.std.proofs.lemmas.Bool.{cases_eq, cases_Bool, cond-true, cond-false, eq-eqb, ne_eqb, false_from_ne_true, eqb-true, false≢true}
 use Rattle.std.proofs.lemmas.Cmp.{nat_eq_equiv}
-use Rattle.std.proofs.lemmas.List.{get_or-set_other, get_or-set_same}
-use Rattle.std.proofs.lemmas.List.Elements.{Contains-append_left, Contains-push, Contains-push_cases}
-use Rattle.std.proofs.lemmas.List.Sorted.{Contains-permutation, sum_by-IsPermutation, IsPermutation-sym}
-use Rattle.std.proofs.lemmas.List.Sums.{sum_by-cons, get_or-le-sum_by}
+use Rattle.std.proofs.lemmas.List.{append_assoc, get_or-set_other, get_or-set_same}
+use Rattle.std.proofs.lemmas.List.Elements.{Contains-append_cases, Contains-append_left, Contains-append_right, Contains-push, Contains-push_cases}
+use Rattle.std.proofs.lemmas.List.Sorted.{Contains-permutation, sum_by-IsPermutation, IsPermutation-append_right, IsPermutation-map, IsPermutation-sym}
+use Rattle.std.proofs.lemmas.List.Sums.{sum_by-cons}
 use Rattle.std.proofs.lemmas.Map.Views.{Contains-from_any, list_any-from_Contains}
-use Rattle.std.proofs.lemmas.Option.{none-some, same_Some}
 use Rattle.waff_model.specs.Tree.{Node}
 use Rattle.waff_assign.specs.Order.{Relation, affinity_of}
+use Rattle.waff_waits.specs.Times.{AreEach}
+use Rattle.waff_waits.proofs.Each.{contains_map, each_apart, each_moved, each_there, none_there}
+use Rattle.waff_plan.specs.Awaiting.{IsOpen}
 use Rattle.waff_plan.specs.Latest.{IsFound, later_of}
-use Rattle.waff_plan.specs.Links.{AreLinks, IsLink, followed_of, link_of}
+use Rattle.waff_plan.specs.Links.{AreLinks, IsLink, held_by, link_of}
 use Rattle.waff_plan.specs.Waits.{wait_of}
-use Rattle.waff_plan.specs.Work.{Work, IsNumber, numbers, finish_of, issue_of}
-use Rattle.waff_plan.specs.Obeys.{FollowsEarlier, IsLeast}
+use Rattle.waff_plan.specs.Work.{Await, Work, IsAwaited, IsNumber, numbers, finish_of, issue_of}
+use Rattle.waff_plan.specs.Obeys.{AwaitsEarlier, IsLeast}
 use Rattle.waff_plan.specs.Order.{ComesBefore, IsServiceKey, Key, Serves}
 use Rattle.waff_plan.specs.Due.{IsDueFirst}
 use Rattle.waff_plan.specs.Pending.{Issue}
 use Rattle.waff_plan.specs.Table.{IsLatestExcluding}
 use Rattle.waff_plan.specs.declared.latest.Latest.{Latest}
 use Rattle.waff_plan.specs.declared.waits.Since.TheVariants.{Release}
+use Rattle.waff_plan.proofs.AwaitingLemmas.{IsDue}
 use Rattle.waff_plan.proofs.Earliest.{least_from_at_once}
 use Rattle.waff_plan.proofs.Followings.{is_wait}
 use Rattle.waff_plan.proofs.Holding.{same_issue}
@@ -49,19 +52,26 @@ pub record IsAtOnce (tree : List Node) (assigned : List ℕ) (work : Work) (key 
 -- the messages that have a start, with their links
 pub record AreTaken (tree : List Node) (assigned : List ℕ) (work : Work) (key : Key) (start : ℕ → ℕ) (order : List ℕ) (links : List (Option ℕ)) : Type 0 where
   pub number : (m : ℕ) → Contains order m → IsNumber work m
-  pub closed : (f m : ℕ) → work.follows m ≡ Some f → Contains order m → Contains order f
+  pub closed : (i m : ℕ) → IsAwaited (work.awaits m) i → Contains order m → Contains order i
   pub at_once : (m : ℕ) → Contains order m → IsAtOnce tree assigned work key start order m (get_or links (m - 1) None)
 
--- the messages that are issued and have no start, with their issues
+-- the numbers of these messages
+abbrev pub those : List Issue → List ℕ
+those pending = map (λ (x : Issue). x.1) pending
+
+-- the messages whose issue is known and that have no start, with their issues: all that they await has one
 pub record ArePending (work : Work) (key : Key) (start : ℕ → ℕ) (order : List ℕ) (pending : List Issue) : Type 0 where
-  pub number : (x : Issue) → Contains pending x → IsNumber work x.1
+  pub each : AreEach (IsDue work order) (order ++ those pending)
   pub issue : (x : Issue) → Contains pending x → x.0 ≡ key start x.1
-  pub apart : (x : Issue) → Contains pending x → Contains order x.1 → ⊥
-  pub after : (x : Issue) (f : ℕ) → Contains pending x → work.follows x.1 ≡ Some f → Contains order f
   pub later : (x : Issue) (i : ℕ) → Contains pending x → Contains order i → ComesBefore (key start) i x.1
-  pub once : (m : ℕ) → count_by (λ (x : Issue). x.1 == m) pending ≤ 1
-  pub all : (m : ℕ) → IsNumber work m → (Contains order m → ⊥) → ((f : ℕ) → work.follows m ≡ Some f → Contains order f)
-      → Contains pending (key start m, m)
+
+-- where one of those that are pending is taken, each is taken or pending as before
+pub each_taken : (P : ℕ → Type 0) (order : List ℕ) (pending rest : List Issue) (x : Issue) → IsPermutation pending (x ∷ rest)
+    → AreEach P (order ++ those pending) → AreEach P ((order ++ x.1 ∷ []) ++ those rest)
+each_taken P order pending rest x taken each =
+    let moved = IsPermutation-map (λ (y : Issue). y.1) pending (x ∷ rest) taken in
+    subst (AreEach P) (sym (append_assoc order (x.1 ∷ []) (those rest)))
+    (each_moved P (order ++ those pending) each (order ++ x.1 ∷ those rest) (IsPermutation-append_right order (those pending) (x.1 ∷ those rest) moved))
 
 -- whether a message is among these
 has : List ℕ → ℕ → Bool
@@ -81,12 +91,12 @@ has_or_not order m = elim (cases_Bool (has order m)) [
   | inr is_not ↦ inr (λ there. false≢true (sym is_not ∙ has_to order m there))
 ]
 
--- the issues of the same messages are the same where what they follow starts at the same ticks
+-- the issues of the same messages are the same where what they await starts at the same ticks
 module _ (work : Work) (start later : ℕ → ℕ) (m : ℕ) (same : (i : ℕ) → 1 ≤ i → i ≢ m → later i ≡ start i) where
-  issue_kept : FollowsEarlier work → (j : ℕ) → ((f : ℕ) → work.follows j ≡ Some f → f ≢ m) → issue_of work later j ≡ issue_of work start j
+  issue_kept : AwaitsEarlier work → (j : ℕ) → ((i : ℕ) → IsAwaited (work.awaits j) i → i ≢ m) → issue_of work later j ≡ issue_of work start j
   issue_kept follows j other = same_issue work later start j (λ f follow. same f (follows f j follow).from (other f follow))
 
-  key_kept : (key : Key) → IsServiceKey work key → FollowsEarlier work → (j : ℕ) → ((f : ℕ) → work.follows j ≡ Some f → f ≢ m) → key later j ≡ key start j
+  key_kept : (key : Key) → IsServiceKey work key → AwaitsEarlier work → (j : ℕ) → ((i : ℕ) → IsAwaited (work.awaits j) i → i ≢ m) → key later j ≡ key start j
   key_kept key service follows j other = service.kept later start j (λ f follow. same f (follows f j follow).from (other f follow))
 
   pub finish_kept : (i : ℕ) → 1 ≤ i → i ≢ m → finish_of work later i ≡ finish_of work start i
@@ -121,16 +131,18 @@ greatest_from Is finish None issue start none at tick issued finished = omega (a
 greatest_from Is finish (Some l) issue start found at tick issued finished =
     omega (arith, at, issued, found.finish_is, finished l.number found.number.one)
 
--- the message that is followed holds back as long where it starts at the same tick
-followed_same : (work : Work) (start later : ℕ → ℕ) (m : ℕ) (follows : Option ℕ) → ((f : ℕ) → follows ≡ Some f → later f ≡ start f)
-    → followed_of work start m follows ≡ followed_of work later m follows
-followed_same work start later m None same = refl
-followed_same work start later m (Some f) same =
-    ap (λ s. followed_of work (λ i. s) m (Some f)) (sym (same f refl))
+-- what is awaited holds back as long where it starts at the same ticks
+held_same : (finish other : ℕ → ℕ) (latest : Option Latest) (awaits : List Await) → ((i : ℕ) → IsAwaited awaits i → other i ≡ finish i)
+    → held_by finish latest awaits ≡ held_by other latest awaits
+held_same finish other latest [] same = refl
+held_same finish other latest (a ∷ rest) same =
+    let more = held_same finish other latest rest (λ i awaited. same i (inr awaited)) in
+    let of : Option Latest → ℕ → Option Latest = λ held tick. later_of held (Some (record { finish = tick + a.gap; number = a.message })) in
+    ap (λ held. of held (finish a.message)) more ∙ ap (of (held_by other latest rest)) (sym (same a.message (inl refl)))
 
 -- one of the pending messages is taken: what is known of it, and what of the others
 module _ (tree : List Node) (assigned : List ℕ) (work : Work) (key : Key) (service : IsServiceKey work key) (start later : ℕ → ℕ) (order : List ℕ) (pending rest : List Issue) (x : Issue)
-    (follows : FollowsEarlier work) (links : List (Option ℕ)) (taken : AreTaken tree assigned work key start order links) (are : ArePending work key start order pending)
+    (follows : AwaitsEarlier work) (links : List (Option ℕ)) (taken : AreTaken tree assigned work key start order links) (are : ArePending work key start order pending)
     (taken_first : IsPermutation pending (x ∷ rest)) (same : (i : ℕ) → 1 ≤ i → i ≢ x.1 → later i ≡ start i) where
   abbrev m : ℕ
   m = x.1
@@ -145,9 +157,15 @@ module _ (tree : List Node) (assigned : List ℕ) (work : Work) (key : Key) (ser
   rest_there y there =
       Contains-permutation (x ∷ rest) pending y (IsPermutation-sym pending (x ∷ rest) taken_first) (suc there.0, omega (arith, there.1), there.2)
 
-  -- what is taken or pending follows only what is taken
+  -- what is taken or pending awaits only what is taken
+  pub due_of : (y : Issue) → Contains pending y → IsDue work order y.1
+  due_of y there = are.each.only y.1 (Contains-append_right order (those pending) y.1 (contains_map (λ (z : Issue). z.1) pending y there))
+
+  pub apart_of : (y : Issue) → Contains pending y → Contains order y.1 → ⊥
+  apart_of y there at = each_apart (IsDue work order) order (those pending) are.each y.1 at (contains_map (λ (z : Issue). z.1) pending y there)
+
   pub order_other : (i : ℕ) → Contains order i → i ≢ m
-  order_other i there is = are.apart x x_there (subst (Contains order) is there)
+  order_other i there is = apart_of x x_there (subst (Contains order) is there)
 
   order_issue : (i : ℕ) → Contains order i → issue_of work later i ≡ issue_of work start i
   order_issue i there = issue_kept work start later m same follows i (λ f follow. order_other f (taken.closed f i follow there))
@@ -159,7 +177,7 @@ module _ (tree : List Node) (assigned : List ℕ) (work : Work) (key : Key) (ser
   order_key i there = key_kept work start later m same key service follows i (λ f follow. order_other f (taken.closed f i follow there))
 
   pending_key : (y : Issue) → Contains pending y → key later y.1 ≡ key start y.1
-  pending_key y there = key_kept work start later m same key service follows y.1 (λ f follow. order_other f (are.after y f there follow))
+  pending_key y there = key_kept work start later m same key service follows y.1 (λ f follow. order_other f ((due_of y there).1 f follow))
 
   pub m_issue_kept : issue_of work later m ≡ issue_of work start m
   m_issue_kept = issue_kept work start later m same follows m (λ f follow is. omega (arith, (follows f m follow).earlier, is))
@@ -171,15 +189,12 @@ module _ (tree : List Node) (assigned : List ℕ) (work : Work) (key : Key) (ser
   -- message m alone is taken
   pub rest_other : (y : Issue) → Contains rest y → y.1 ≢ m
   rest_other y there is =
-      let counts : Issue → ℕ = λ (z : Issue). cond (z.1 == m) 1 0 in
-      let one : counts x ≡ 1 = cond-true {A = ℕ} (m == m) 1 0 (eq-eqb m m refl) in
-      let two : counts y ≡ 1 = cond-true {A = ℕ} (y.1 == m) 1 0 (eq-eqb y.1 m is) in
-      let some = subst (λ z. counts z ≤ sum_by counts rest) there.2 (get_or-le-sum_by counts rest there.0 y there.1) in
-      omega (arith, are.once m, sum_by-IsPermutation counts pending (x ∷ rest) taken_first, sum_by-cons counts x rest, one, two, some)
+      each_apart (IsDue work order) more (those rest) (each_taken (IsDue work order) order pending rest x taken_first are.each) m (Contains-push order m)
+      (subst (Contains (those rest)) is (contains_map (λ (z : Issue). z.1) rest y there))
 
   -- a message that has a start, or m, is behind the same messages as before
   once_again : (j s : ℕ) (latest : Option Latest) (link : Option ℕ) → key later j ≡ key start j → (ComesBefore (key later) m j → ⊥)
-      → ((f : ℕ) → work.follows j ≡ Some f → Contains order f) → later j ≡ s → issue_of work later j ≡ issue_of work start j
+      → IsOpen work order j → later j ≡ s → issue_of work later j ≡ issue_of work start j
       → StartsAfter latest (issue_of work start j) s → link ≡ wait_of Release work start j latest
       → IsFound (λ i. IsTakenBefore tree assigned work (key start) order i j) (finish_of work start) latest → IsAtOnce tree assigned work key later more j link
   once_again j s latest link kept not_before after start_is issue_is starts link_is found = record {
@@ -197,14 +212,14 @@ module _ (tree : List Node) (assigned : List ℕ) (work : Work) (key : Key) (ser
         (λ i pair. order_finish i pair.0) found);
     starts = subst (λ t. StartsAfter latest (issue_of work later j) t) (sym start_is) (subst (λ i. StartsAfter latest i s) (sym issue_is) starts);
     link_is = link_is
-        ∙ ap (λ followed. link_of (later_of latest followed) (work.floor j))
-        (followed_same work start later j (work.follows j) (λ f follow. same f (follows f j follow).from (order_other f (after f follow))));
+        ∙ ap (λ held. link_of held (work.floor j))
+        (held_same (finish_of work start) (finish_of work later) latest (work.awaits j) (λ i awaited. order_finish i (after i awaited)));
   }
 
   module _ (s : ℕ) (latest : Option Latest) (starts : later m ≡ s) (latest_is : IsLatestExcluding tree assigned (finish_of work start) order (affinity_of assigned m) latest)
       (starts_at : MatchOption latest (s ≡ issue_of work start m) (λ l. s ≡ max (issue_of work start m) l.finish)) where
     m_number : IsNumber work m
-    m_number = are.number x x_there
+    m_number = (due_of x x_there).0
 
     pub m_key : x.0 ≡ key later m
     m_key = are.issue x x_there ∙ sym (pending_key x x_there)
@@ -215,7 +230,7 @@ module _ (tree : List Node) (assigned : List ℕ) (work : Work) (key : Key) (ser
 
     m_at_once : IsAtOnce tree assigned work key later more m link
     m_at_once =
-        once_again m s latest link (pending_key x x_there) (keyed_not_itself (key later) m) (λ f follow. are.after x f x_there follow) starts m_issue_kept starts_at refl
+        once_again m s latest link (pending_key x x_there) (keyed_not_itself (key later) m) (due_of x x_there).1 starts m_issue_kept starts_at refl
         (found_same _ (λ i. IsTakenBefore tree assigned work (key start) order i m) (finish_of work start) latest
         (λ i both. (both.0, record { first = taken.number i both.0; second = m_number; precedes = are.later x i x_there both.0; excludes = both.1 }))
         (λ i pair. (pair.0, pair.1.excludes)) latest_is)
@@ -237,7 +252,7 @@ module _ (tree : List Node) (assigned : List ℕ) (work : Work) (key : Key) (ser
       ];
       closed = λ f j follow there. Contains-append_left order (m ∷ []) f (elim (Contains-push_cases order m j there) [
         | inl old ↦ taken.closed f j follow old
-        | inr new ↦ are.after x f x_there (ap work.follows new ∙ follow)
+        | inr new ↦ (due_of x x_there).1 f (subst (λ n. IsAwaited (work.awaits n) f) (sym new) follow)
       ]);
       at_once = λ j there. elim (Contains-push_cases order m j there) [
         | inl old ↦ old_at_once j old
@@ -248,20 +263,10 @@ module _ (tree : List Node) (assigned : List ℕ) (work : Work) (key : Key) (ser
       ];
     }
 
-    -- the message that follows m is issued once m has a start
+    -- those are pending then that were, and that await m and nothing more
     module _ (pending_more : List Issue) (no_later : (y : Issue) → Contains rest y → IsDueFirst x y)
-        (new_in : (y : Issue) → Contains pending_more y
-        → Contains rest y ⊎ ((work.follows y.1 ≡ Some m) × ((y.0 ≡ key later y.1) × IsNumber work y.1)))
-        (old_in : (y : Issue) → Contains rest y → Contains pending_more y)
-        (next_in : (j : ℕ) → work.follows j ≡ Some m → IsNumber work j → Contains pending_more (key later j, j))
-        (once_more : (j : ℕ) → count_by (λ (y : Issue). y.1 == j) pending_more ≤ 1) where
-      -- what follows m is not taken
-      next_apart : (j : ℕ) → work.follows j ≡ Some m → Contains more j → ⊥
-      next_apart j follow there = elim (Contains-push_cases order m j there) [
-        | inl old ↦ are.apart x x_there (taken.closed m j follow old)
-        | inr new ↦ omega (arith, (follows m j follow).earlier, new)
-      ]
-
+        (new_in : (y : Issue) → Contains pending_more y → Contains rest y ⊎ (IsAwaited (work.awaits y.1) m × (y.0 ≡ key later y.1)))
+        (each_more : AreEach (IsDue work more) (more ++ those pending_more)) where
       m_before : (y : Issue) → Contains rest y → ComesBefore (key later) m y.1
       m_before y there = elim (no_later y there) [
         | inl sooner ↦ inl (omega (arith, sooner, m_key, are.issue y (rest_there y there), pending_key y (rest_there y there)))
@@ -269,8 +274,8 @@ module _ (tree : List Node) (assigned : List ℕ) (work : Work) (key : Key) (ser
             inr (omega (arith, equal.0, m_key, are.issue y (rest_there y there), pending_key y (rest_there y there)), omega (arith, equal.1, rest_other y there))
       ]
 
-      m_before_next : (j : ℕ) → work.follows j ≡ Some m → ComesBefore (key later) m j
-      m_before_next j follow = service.rises later m j follow (issued_from m_at_once.latest (issue_of work later m) (later m) m_at_once.starts)
+      m_before_next : (j : ℕ) → IsAwaited (work.awaits j) m → ComesBefore (key later) m j
+      m_before_next j awaits = service.rises later m j awaits (issued_from m_at_once.latest (issue_of work later m) (later m) m_at_once.starts)
 
       later_more : (y : Issue) (i : ℕ) → Contains pending_more y → Contains more i → ComesBefore (key later) i y.1
       later_more y i there at = elim (new_in y there) [
@@ -284,57 +289,14 @@ module _ (tree : List Node) (assigned : List ℕ) (work : Work) (key : Key) (ser
         ]
       ]
 
-      -- a message that is due is pending
-      due_in : (j : ℕ) → IsNumber work j → (Contains more j → ⊥) → (o : Option ℕ) → work.follows j ≡ o
-          → ((f : ℕ) → work.follows j ≡ Some f → Contains more f) → Contains pending_more (key later j, j)
-      due_in j number apart o is after = elim (follows_m o is) [
-        | inl follow ↦ next_in j follow number
-        | inr other ↦
-            let after_old : (f : ℕ) → work.follows j ≡ Some f → Contains order f = λ f follow. elim (Contains-push_cases order m f (after f follow)) [
-              | inl old ↦ old
-              | inr new ↦ absurd (other (follow ∙ ap Some (sym new)))
-            ] in
-            let there = are.all j number (λ old. apart (Contains-append_left order (m ∷ []) j old)) after_old in
-            let kept : key later j ≡ key start j = key_kept work start later m same key service follows j (λ f follow new. other (follow ∙ ap Some new)) in
-            let now : Contains pending (key later j, j) = subst (λ e. Contains pending (e, j)) (sym kept) there in
-            elim (rest_or_x (key later j, j) (Contains-permutation pending (x ∷ rest) (key later j, j) taken_first now)) [
-              | inl here ↦ absurd (apart (subst (Contains more) (ap (λ (z : Issue). z.1) here) (Contains-push order m)))
-              | inr there ↦ old_in (key later j, j) there
-            ]
-      ]
-        where
-          follows_m : (o : Option ℕ) → work.follows j ≡ o → (work.follows j ≡ Some m) ⊎ (work.follows j ≡ Some m → ⊥)
-          follows_m None is = inr (λ follow. none-some m (sym is ∙ follow))
-          follows_m (Some f) is = elim (cases_eq f m) [
-            | inl equal ↦ inl (is ∙ ap Some equal)
-            | inr other ↦ inr (λ follow. other (same_Some f m (sym is ∙ follow)))
-          ]
-
-          rest_or_x : (y : Issue) → Contains (x ∷ rest) y → (x ≡ y) ⊎ Contains rest y
-          rest_or_x y (zero, within, at) = inl at
-          rest_or_x y (suc k, within, at) = inr (k, omega (arith, within), at)
-
       pub pending_from : ArePending work key later more pending_more
       pending_from = record {
-        number = λ y there. elim (new_in y there) [ inl old ↦ are.number y (rest_there y old) | inr new ↦ new.1.1 ];
+        each = each_more;
         issue = λ y there. elim (new_in y there) [
           | inl old ↦ are.issue y (rest_there y old) ∙ sym (pending_key y (rest_there y old))
-          | inr new ↦ new.1.0
-        ];
-        apart = λ y there at. elim (new_in y there) [
-          | inl old ↦ elim (Contains-push_cases order m y.1 at) [
-            | inl taken_y ↦ are.apart y (rest_there y old) taken_y
-            | inr new ↦ rest_other y old (sym new)
-          ]
-          | inr new ↦ next_apart y.1 new.0 at
-        ];
-        after = λ y f there follow. elim (new_in y there) [
-          | inl old ↦ Contains-append_left order (m ∷ []) f (are.after y f (rest_there y old) follow)
-          | inr new ↦ subst (Contains more) (same_Some m f (sym new.0 ∙ follow)) (Contains-push order m)
+          | inr new ↦ new.1
         ];
         later = later_more;
-        once = once_more;
-        all = λ j number apart after. due_in j number apart (work.follows j) refl after;
       }
 
 -- each message is pending once
@@ -347,11 +309,6 @@ count_none m (y ∷ ys) none =
     let others = count_none m ys (λ z there. none z (suc there.0, omega (arith, there.1), there.2)) in
     let this = cond-false {A = ℕ} (y.1 == m) 1 0 (ne_eqb y.1 m (none y (0, omega arith, refl))) in
     omega (arith, sum_by-cons (λ (x : Issue). cond (x.1 == m) 1 0) y ys, others, this)
-
-pub once_rest : (pending rest : List Issue) (x : Issue) → IsPermutation pending (x ∷ rest) → AreOnce pending → AreOnce rest
-once_rest pending rest x taken once m =
-    let counts : Issue → ℕ = λ (z : Issue). cond (z.1 == m) 1 0 in
-    omega (arith, once m, sum_by-IsPermutation counts pending (x ∷ rest) taken, sum_by-cons counts x rest)
 
 pub once_put : (old new : List Issue) (x : Issue) → IsPermutation (x ∷ old) new → AreOnce old → ((y : Issue) → Contains old y → y.1 ≢ x.1) → AreOnce new
 once_put old new x put once other m =
@@ -366,22 +323,26 @@ once_put old new x put once other m =
     ]
 
 -- where no message is pending, all have a start
-pub all_taken : (work : Work) (key : Key) (start : ℕ → ℕ) (order : List ℕ) → FollowsEarlier work → ArePending work key start order [] → (n m : ℕ) → m ≤ n → IsNumber work m
+pub all_taken : (work : Work) (key : Key) (start : ℕ → ℕ) (order : List ℕ) → AwaitsEarlier work → ArePending work key start order [] → (n m : ℕ) → m ≤ n → IsNumber work m
     → Contains order m
 all_taken work key start order follows are zero m within number = absurd (omega (arith, within, number.from))
 all_taken work key start order follows are (suc n) m within number = elim (has_or_not order m) [
   | inl there ↦ there
   | inr apart ↦
-      let due = are.all m number apart (λ f follow.
-      let earlier = follows f m follow in
-      all_taken work key start order follows are n f (omega (arith, within, earlier.earlier))
-      (record { from = earlier.from; to = omega (arith, earlier.earlier, earlier.to) })) in
-      absurd (omega (arith, due.1))
+      let due : IsDue work order m = (
+        number,
+        λ f follow.
+            let earlier = follows f m follow in
+            all_taken work key start order follows are n f (omega (arith, within, earlier.earlier))
+            (record { from = earlier.from; to = omega (arith, earlier.earlier, earlier.to) }),
+      ) in
+      let there = each_there (IsDue work order) (order ++ []) are.each m due in
+      elim (Contains-append_cases order [] m there) [ inl taken ↦ taken | inr none ↦ absurd (none_there m none) ]
 ]
 
 -- where no message is pending, this is the least plan, and these are its links in an order that tells the same
 module _ (tree : List Node) (assigned : List ℕ) (work : Work) (key : Key) (service : IsServiceKey work key) (start : ℕ → ℕ) (order : List ℕ)
-    (follows : FollowsEarlier work) (links : List (Option ℕ)) (taken : AreTaken tree assigned work key start order links) (are : ArePending work key start order []) where
+    (follows : AwaitsEarlier work) (links : List (Option ℕ)) (taken : AreTaken tree assigned work key start order links) (are : ArePending work key start order []) where
   all : (m : ℕ) → IsNumber work m → Contains order m
   all m number = all_taken work key start order follows are m m (omega arith) number
 

@@ -4,13 +4,20 @@ use Rattle.std.specs.HashMap as hash
 use Rattle.std.specs.Str.{bytes_eq}
 use Rattle.std.proofs.lemmas.Bool.{cond-false, false_from_ne_true}
 use Rattle.std.proofs.lemmas.Map.Text.{hash_map_updates_str}
-use Rattle.std.proofs.lemmas.Option.{none-some}
+use Rattle.std.proofs.lemmas.Option.{none-some, same_Some}
 use Rattle.std.proofs.lemmas.Slice.Eq.{bytes_eq-Decides}
 use Rattle.waff_model.specs.Messages.{no_client}
 use Rattle.waff_plan.specs.Clients.{client_of, last_of, one_before}
-use Rattle.waff_plan.specs.LastMessages.{AreLast}
-use Rattle.waff_plan.specs.Timing.{some_number}
-use Rattle.waff_plan.proofs.FollowLemmas.{followed_some, some_number_is}
+use Rattle.waff_plan.specs.LastMessages.{AreLast, some_number}
+
+-- a number that is not 0 is that of a message, and a number is that of the message that it says
+number_some : (n : ℕ) → n ≢ 0 → some_number n ≡ Some n
+number_some zero some = absurd (some refl)
+number_some (suc n) some = refl
+
+some_number_is : (n i : ℕ) → some_number n ≡ Some i → n ≡ i
+some_number_is zero i is = absurd (none-some i is)
+some_number_is (suc n) i is = same_Some (suc n) i is
 
 -- one more message
 last_of_more : (clients : List (List ℕ)) (client : List ℕ) (n : ℕ) → 1 ≤ n
@@ -32,7 +39,7 @@ last_noted clients n name last new from is updates are client some =
     at ∙ both (bytes_eq name client) ∙ sym (ap some_number more)
   where
     both : (b : Bool) → cond b (Some n) (hash.get_by (λ k. bytes_eq client k.now) last) ≡ some_number (cond b n (last_of clients client (n - 1)))
-    both true = sym (followed_some n (λ zero. omega (arith, from, zero)))
+    both true = sym (number_some n (λ zero. omega (arith, from, zero)))
     both false = are client some
 
 -- of a client it is the last of that client so far

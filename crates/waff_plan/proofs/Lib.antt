@@ -9,6 +9,7 @@ pub mod Orders
 pub mod IssueOrder
 pub mod StartOrder
 pub mod IssuePlans
+pub mod AwaitingLemmas
 mod IssueSteps
 mod DueLemmas
 pub mod FollowLemmas

@@ -1,6 +1,6 @@
 -- No plan that obeys is shorter than its share of the work, than what one client needs, or than what
 -- runs on one path of affinities.
-use Rattle.std.proofs.Common.{◌≡◌, ℕ, zero, suc, ◌+◌, ◌-◌, ◌*◌, ◌^◌, ◌<◌, ◌≤◌, inl, inr, true, Bool, cond, eqb, max, List, [], ◌∷◌, ◌++◌, All, map, length, get_or, set, sum_by, count_by, Option, Some, None, IfSome, option_map, arith, refl, sym, ◌∙◌, ap, subst}
+use Rattle.std.proofs.Common.{◌≡◌, ℕ, zero, suc, ◌+◌, ◌-◌, ◌*◌, ◌^◌, ◌<◌, ◌≤◌, inl, inr, true, Bool, cond, eqb, max, List, [], ◌∷◌, ◌++◌, All, map, length, get_or, set, sum_by, count_by, Option, Some, None, IfSome, arith, refl, sym, ◌∙◌, ap, subst}
 use Rattle.std.specs.List.{range_with_len}
 use Rattle.std.proofs.lemmas.Bool.{cases_Bool, cases_eq, cases_lt, cond-true, cond-false, eq-eqb, ne_eqb}
 use Rattle.std.proofs.lemmas.List.{get_or_past, get_or-set_other, get_or-set_same}
@@ -14,13 +14,14 @@ use Rattle.waff_plan.specs.Apart.{AreApart}
 use Rattle.waff_plan.specs.Bound.{IsWorkers}
 use Rattle.waff_plan.specs.IssueLaws.{StartsIssued}
 use Rattle.waff_plan.specs.LowerBound.{NoneIsBelow, client_finish, cost_by, cost_in, finish_by, of_parent, own_cost, path_cost, share_in}
-use Rattle.waff_plan.specs.Obeys.{FollowsEarlier}
-use Rattle.waff_plan.specs.Timing.{IsTiming, no_timing, work_of}
+use Rattle.waff_plan.specs.Obeys.{AwaitsEarlier}
+use Rattle.waff_plan.specs.Timing.{IsTiming, no_timing, timing_of, work_of}
 use Rattle.waff_plan.specs.declared.timing.Timing.{Timing}
-use Rattle.waff_plan.specs.Work.{IsNumber, Work, finish_of, greatest, issue_after, length_of, numbers, total_of}
+use Rattle.waff_plan.specs.Work.{Await, IsAwaited, IsNumber, Work, finish_of, gap_of, greatest, issue_after, length_of, numbers, total_of}
 use Rattle.waff_plan.specs.Workers.{IsWorkerPlan, running, runs_at}
 use Rattle.waff_plan.proofs.ApartLaws.{runs_from, runs_parts}
-use Rattle.waff_plan.proofs.Holding.{floor-le-issue}
+use Rattle.waff_plan.proofs.FollowLemmas.{gap_within}
+use Rattle.waff_plan.proofs.Holding.{floor-le-issue, issue_again, issue_sooner, issued_by}
 use Rattle.waff_plan.proofs.Longest.{finish_of-le-length_of, length_of-le, sum_more}
 use Rattle.waff_plan.proofs.Shares.{share_is_within}
 use Rattle.waff_plan.proofs.Ticks.{sum_by-numbers-le, total_is_within_workers}
@@ -49,29 +50,22 @@ share_below (Some k) work other known issued within =
     } in
     share_is_within k (total_of work) (length_of work other) known.from (total_is_within_workers Unordered work k other plan)
 
--- what follows others is issued no sooner than these let it
-issue_within : (work : Work) (other : ℕ → ℕ) (n release think s : ℕ) (o : Option ℕ)
-    → ((f : ℕ) → o ≡ Some f → finish_by work n f ≤ finish_of work other f)
-    → issue_after release think (option_map (finish_of work other) o) ≤ s → issue_after release think (option_map (finish_by work n) o) ≤ s
-issue_within work other n release think s None below issued = issued
-issue_within work other n release think s (Some f) below issued = omega (arith, below f refl, issued)
-
--- what a client needs
-finish_within : (work : Work) (other : ℕ → ℕ) → FollowsEarlier work → StartsIssued work other → (n m : ℕ) → IsNumber work m
+-- what messages need that await each other
+finish_within : (work : Work) (other : ℕ → ℕ) → AwaitsEarlier work → StartsIssued work other → (n m : ℕ) → IsNumber work m
     → finish_by work n m ≤ finish_of work other m
 finish_within work other follows issued zero m number =
     omega (arith, floor-le-issue Unordered work other m, issued m number)
 finish_within work other follows issued (suc n) m number =
     omega (
       arith,
-      issue_within work other n (work.floor m) (work.think m) (other m) (work.follows m)
-          (λ f is.
-          let before = follows f m is in
-          finish_within work other follows issued n f (record { from = before.from; to = omega (arith, before.earlier, before.to) }))
-          (issued m number),
+      issue_sooner (finish_by work n) (finish_of work other) (work.floor m) (work.awaits m)
+          (λ i awaited.
+          let before = follows i m awaited in
+          finish_within work other follows issued n i (record { from = before.from; to = omega (arith, before.earlier, before.to) })),
+      issued m number,
     )
 
-clients_below : (work : Work) (other : ℕ → ℕ) → FollowsEarlier work → StartsIssued work other
+clients_below : (work : Work) (other : ℕ → ℕ) → AwaitsEarlier work → StartsIssued work other
     → greatest (map (client_finish work) (numbers work)) ≤ length_of work other
 clients_below work other follows issued =
     greatest_within (client_finish work) 1 work.count (length_of work other)
@@ -220,7 +214,7 @@ module _ (tree : List Node) (assigned : List ℕ) (work : Work) where
 
   -- the messages in an affinity and above it, as work of its own
   abbrev path_work : ℕ → ℕ → Work
-  path_work n a = record { count = work.count; cost = λ m. part n a m; floor = λ m. 0; follows = λ m. None; think = λ m. 0 }
+  path_work n a = record { count = work.count; cost = λ m. part n a m; floor = λ m. 0; awaits = λ m. [] }
 
   -- of them at most one runs at a tick
   path_running : IsTree tree → length assigned ≡ work.count → (other : ℕ → ℕ) → AreApart (IsOrdered tree assigned) work other → (n a t : ℕ)
@@ -270,44 +264,35 @@ none_is_below workers tree assigned work is long known follows start obeys =
       paths_below tree assigned work is long start obeys.apart,
     )
 
-same_map : (g h : ℕ → ℕ) (o : Option ℕ) → ((f : ℕ) → o ≡ Some f → g f ≡ h f) → option_map g o ≡ option_map h o
-same_map g h None same = refl
-same_map g h (Some f) same = ap Some (same f refl)
+-- what messages need that await each other, one after another
+module _ (work : Work) (follows : AwaitsEarlier work) where
+  -- the first message awaits none
+  alone : (m : ℕ) → m ≤ 1 → (awaits : List Await) → work.awaits m ≡ awaits → awaits ≡ []
+  alone m first [] is = refl
+  alone m first (a ∷ rest) is =
+      let before = follows a.message m (subst (λ x. IsAwaited x a.message) (sym is) (inl refl)) in
+      absurd (omega (arith, first, before.from, before.earlier))
 
--- what a client needs, one message after another
-module _ (work : Work) (follows : FollowsEarlier work) where
-  alone : (m : ℕ) (o : Option ℕ) → m ≤ 1 → work.follows m ≡ o → o ≡ None
-  alone m None first is = refl
-  alone m (Some f) first is = let before = follows f m is in absurd (omega (arith, first, before.from, before.earlier))
+  by_floor : (n m : ℕ) → m ≤ 1 → finish_by work n m ≡ work.floor m + work.cost m
+  by_floor zero m first = refl
+  by_floor (suc n) m first = ap (λ awaits. issue_after (finish_by work n) (work.floor m) awaits + work.cost m) (alone m first (work.awaits m) refl)
 
   enough : (n k m : ℕ) → m ≤ n + 1 → m ≤ k + 1 → finish_by work n m ≡ finish_by work k m
   enough zero zero m few also = refl
-  enough zero (suc k) m few also =
-      sym (ap (λ o. issue_after (work.floor m) (work.think m) (option_map (finish_by work k) o) + work.cost m) (alone m (work.follows m) (omega (arith, few)) refl))
-  enough (suc n) zero m few also =
-      ap (λ o. issue_after (work.floor m) (work.think m) (option_map (finish_by work n) o) + work.cost m) (alone m (work.follows m) (omega (arith, also)) refl)
+  enough zero (suc k) m few also = sym (by_floor (suc k) m (omega (arith, few)))
+  enough (suc n) zero m few also = by_floor (suc n) m (omega (arith, also))
   enough (suc n) (suc k) m few also =
-      ap (λ o. issue_after (work.floor m) (work.think m) o + work.cost m)
-      (same_map (finish_by work n) (finish_by work k) (work.follows m)
-      (λ f is. let before = follows f m is in enough n k f (omega (arith, before.earlier, few)) (omega (arith, before.earlier, also))))
+      ap (λ issue. issue + work.cost m)
+      (issue_again (finish_by work n) (finish_by work k) (work.floor m) (work.awaits m)
+      (λ i awaited. let before = follows i m awaited in enough n k i (omega (arith, before.earlier, few)) (omega (arith, before.earlier, also))))
 
-  -- by the message that it follows
-  pub client_is : (m : ℕ) → IsNumber work m
-      → client_finish work m ≡ issue_after (work.floor m) (work.think m) (option_map (client_finish work) (work.follows m)) + work.cost m
+  -- by the messages that it awaits
+  pub client_is : (m : ℕ) → IsNumber work m → client_finish work m ≡ issue_after (client_finish work) (work.floor m) (work.awaits m) + work.cost m
   client_is zero number = absurd (omega (arith, number.from))
   client_is (suc k) number =
-      ap (λ o. issue_after (work.floor (suc k)) (work.think (suc k)) o + work.cost (suc k))
-      (same_map (finish_by work k) (client_finish work) (work.follows (suc k))
-      (λ f is. let before = follows f (suc k) is in enough k f f (omega (arith, before.earlier)) (omega arith)))
-
-  pub client_alone : (m : ℕ) → IsNumber work m → work.follows m ≡ None → client_finish work m ≡ work.floor m + work.cost m
-  client_alone m number none =
-      client_is m number ∙ ap (λ o. issue_after (work.floor m) (work.think m) (option_map (client_finish work) o) + work.cost m) none
-
-  pub client_after : (m f : ℕ) → IsNumber work m → work.follows m ≡ Some f
-      → client_finish work m ≡ max (work.floor m) (client_finish work f + work.think m) + work.cost m
-  client_after m f number some =
-      client_is m number ∙ ap (λ o. issue_after (work.floor m) (work.think m) (option_map (client_finish work) o) + work.cost m) some
+      ap (λ issue. issue + work.cost (suc k))
+      (issue_again (finish_by work k) (client_finish work) (work.floor (suc k)) (work.awaits (suc k))
+      (λ i awaited. let before = follows i (suc k) awaited in enough k i i (omega (arith, before.earlier)) (omega arith)))
 
 -- the costs in an affinity and above it, by those of its parent
 module _ (tree : List Node) (assigned : List ℕ) (work : Work) (rooted : IsRooted tree) where
@@ -356,20 +341,21 @@ cost_in_here assigned work a m same = cond-true (eqb (affinity_of assigned m) a)
 pub cost_in_other : (assigned : List ℕ) (work : Work) (a m : ℕ) → (affinity_of assigned m ≡ a → ⊥) → cost_in assigned work a m ≡ 0
 cost_in_other assigned work a m other = cond-false (eqb (affinity_of assigned m) a) (work.cost m) 0 (ne_eqb (affinity_of assigned m) a other)
 
--- what a client needs is small
-pub finish_small : (work : Work) → FollowsEarlier work → ((m : ℕ) → IsNumber work m → (work.floor m ≤ 2 ^ 30) × (work.think m ≤ 2 ^ 24) × (work.cost m ≤ 2 ^ 24))
-    → (n m : ℕ) → IsNumber work m → finish_by work n m ≤ 2 ^ 30 + m * 2 ^ 25
+-- work within limits: floors, gaps and costs
+abbrev pub AreLimits : Work → Type 0
+AreLimits work = (m : ℕ) → IsNumber work m → (work.floor m ≤ 2 ^ 30) × ((i : ℕ) → gap_of work i m ≤ 2 ^ 24) × (work.cost m ≤ 2 ^ 24)
+
+-- what messages need that await each other is small
+pub finish_small : (work : Work) → AwaitsEarlier work → AreLimits work → (n m : ℕ) → IsNumber work m → finish_by work n m ≤ 2 ^ 30 + m * 2 ^ 25
 finish_small work follows limits zero m number = let limit = limits m number in omega (arith, limit.0, limit.2, number.from)
-finish_small work follows limits (suc n) m number = by (work.follows m) refl (λ f known. finish_small work follows limits n f known)
-  where
-    by : (o : Option ℕ) → work.follows m ≡ o → ((f : ℕ) → IsNumber work f → finish_by work n f ≤ 2 ^ 30 + f * 2 ^ 25)
-        → issue_after (work.floor m) (work.think m) (option_map (finish_by work n) o) + work.cost m ≤ 2 ^ 30 + m * 2 ^ 25
-    by None is small = let limit = limits m number in omega (arith, limit.0, limit.2, number.from)
-    by (Some f) is small =
-        let limit = limits m number in
-        let before = follows f m is in
-        let known : IsNumber work f = record { from = before.from; to = omega (arith, before.earlier, before.to) } in
-        omega (arith, limit.0, limit.1, limit.2, small f known, before.earlier)
+finish_small work follows limits (suc n) m number =
+    let limit = limits m number in
+    let issued = issued_by (finish_by work n) (work.floor m) (2 ^ 30 + (m - 1) * 2 ^ 25 + 2 ^ 24) (work.awaits m) (omega (arith, limit.0))
+    (λ i awaited.
+    let before = follows i m awaited in
+    let known : IsNumber work i = record { from = before.from; to = omega (arith, before.earlier, before.to) } in
+    omega (arith, finish_small work follows limits n i known, limit.1 i, before.earlier)) in
+    omega (arith, issued, limit.2, number.from)
 
 -- one more sum in its place, and one fewer of those that wait
 pub done_more : (f : ℕ → ℕ) (costs : List ℕ) (a cost : ℕ) → a < length costs → cost ≡ f a → ((p : ℕ) → p < a → get_or costs p 0 ≡ f p)
@@ -417,11 +403,14 @@ small_more costs n a now cost from within so_far is small b there = elim (cases_
 ]
 
 -- the timings of messages are small
-pub timing_limits : (timings : List Timing) → All IsTiming timings → (m : ℕ) → IsNumber (work_of timings) m
-    → ((work_of timings).floor m ≤ 2 ^ 30) × ((work_of timings).think m ≤ 2 ^ 24) × ((work_of timings).cost m ≤ 2 ^ 24)
+pub timing_limits : (timings : List Timing) → All IsTiming timings → AreLimits (work_of timings)
 timing_limits timings small m number =
     let timing = small (m - 1) no_timing (omega (arith, number.from, number.to)) in
-    (omega (arith, timing.floor), omega (arith, timing.think), omega (arith, timing.cost))
+    let at = timing_of timings m in (
+      omega (arith, timing.floor),
+      (λ i. let within = gap_within at.follows at.think i in omega (arith, within, timing.think)),
+      omega (arith, timing.cost),
+    )
 
 -- the finishes of the first messages
 module _ (work : Work) (finishes : List ℕ) (are : finishes ≡ map (client_finish work) (range_with_len 1 (length finishes))) (few : length finishes ≤ work.count) where
@@ -429,8 +418,7 @@ module _ (work : Work) (finishes : List ℕ) (are : finishes ≡ map (client_fin
   finish_at i within =
       ap (λ xs. get_or xs i 0) are ∙ get_or-map-range_with_len (client_finish work) 1 (length finishes) i (i + 1) 0 within (omega arith)
 
-  pub each_small : FollowsEarlier work → ((m : ℕ) → IsNumber work m → (work.floor m ≤ 2 ^ 30) × (work.think m ≤ 2 ^ 24) × (work.cost m ≤ 2 ^ 24))
-      → (i : ℕ) → get_or finishes i 0 ≤ 2 ^ 30 + length finishes * 2 ^ 25
+  pub each_small : AwaitsEarlier work → AreLimits work → (i : ℕ) → get_or finishes i 0 ≤ 2 ^ 30 + length finishes * 2 ^ 25
   each_small follows limits i = elim (cases_lt i (length finishes)) [
     | inl within ↦
         let number : IsNumber work (i + 1) = record { from = omega arith; to = omega (arith, within, few) } in

@@ -1,42 +1,42 @@
 -- Orders by a key: what holds back another comes first, so that messages have places.
-use Rattle.std.proofs.Common.{◌≡◌, ℕ, ◌≤◌, ◌↔◌, inl, inr, List, length, Some, arith, refl}
+use Rattle.std.proofs.Common.{◌≡◌, ℕ, ◌≤◌, ◌↔◌, inl, inr, List, length, arith, refl}
 use Rattle.std.proofs.lemmas.Bool.{cases_lt}
 use Rattle.waff_model.specs.Tree.{Node}
 use Rattle.waff_model.specs.declared.message.Version.{Version}
 use Rattle.waff_model.specs.declared.message.Version.TheVariants.{V1, V2, V3}
 use Rattle.waff_assign.specs.Order.{IsOrdered, Relation}
-use Rattle.waff_plan.specs.Obeys.{FollowsEarlier, IsForward, IsLinked}
+use Rattle.waff_plan.specs.Obeys.{AwaitsEarlier, IsForward, IsLinked}
 use Rattle.waff_plan.specs.Order.{ComesBefore, IsServiceKey, Precedes, Serves, key_of}
 use Rattle.waff_plan.specs.Serving.{served_before}
-use Rattle.waff_plan.specs.Work.{Work, IsNumber, issue_of}
-use Rattle.waff_plan.proofs.Holding.{followed-le-issue, same_issue}
+use Rattle.waff_plan.specs.Work.{Work, IsAwaited, IsNumber, issue_of}
+use Rattle.waff_plan.proofs.Holding.{awaited-le-issue, same_issue}
 use Rattle.waff_plan.proofs.Places.{earlier_place, place_from, place_of, place_to}
 
 -- the key of versions 1 and 2 is a service key, and so is the issue
-key_rises : (version : Version) (work : Work) → FollowsEarlier work → (start : ℕ → ℕ) (i m : ℕ) → work.follows m ≡ Some i
+key_rises : (version : Version) (work : Work) → AwaitsEarlier work → (start : ℕ → ℕ) (i m : ℕ) → IsAwaited (work.awaits m) i
     → issue_of work start i ≤ start i → ComesBefore (key_of version work start) i m
 key_rises V1 work follows start i m follow issued = inr (refl, (follows i m follow).earlier)
 key_rises V2 work follows start i m follow issued = inr (refl, (follows i m follow).earlier)
 key_rises V3 work follows start i m follow issued =
-    let later : issue_of work start i ≤ issue_of work start m = omega (arith, issued, followed-le-issue work start i m follow) in
+    let later : issue_of work start i ≤ issue_of work start m = omega (arith, issued, awaited-le-issue work start i m follow) in
     elim (cases_lt (issue_of work start i) (issue_of work start m)) [
       | inl sooner ↦ inl sooner
       | inr no_sooner ↦ inr (omega (arith, later, no_sooner), (follows i m follow).earlier)
     ]
 
-key_kept : (version : Version) (work : Work) (start other : ℕ → ℕ) (m : ℕ) → ((f : ℕ) → work.follows m ≡ Some f → start f ≡ other f)
+key_kept : (version : Version) (work : Work) (start other : ℕ → ℕ) (m : ℕ) → ((i : ℕ) → IsAwaited (work.awaits m) i → start i ≡ other i)
     → key_of version work start m ≡ key_of version work other m
 key_kept V1 work start other m same = refl
 key_kept V2 work start other m same = refl
 key_kept V3 work start other m same = same_issue work start other m same
 
-pub service_key : (version : Version) (work : Work) → FollowsEarlier work → IsServiceKey work (key_of version work)
+pub service_key : (version : Version) (work : Work) → AwaitsEarlier work → IsServiceKey work (key_of version work)
 service_key version work follows = record { kept = key_kept version work; rises = key_rises version work follows }
 
--- what comes first by a key goes forward, where a message comes before the one that follows it
+-- what comes first by a key goes forward, where a message comes before those that await it
 module _ (tree : List Node) (assigned : List ℕ) (work : Work) (count : ℕ) (same : count ≡ work.count) (first : Relation) (key : ℕ → ℕ)
-    (to : (i j : ℕ) → first i j → ComesBefore key i j) (follows : FollowsEarlier work)
-    (rises : (i m : ℕ) → work.follows m ≡ Some i → ComesBefore key i m) where
+    (to : (i j : ℕ) → first i j → ComesBefore key i j) (follows : AwaitsEarlier work)
+    (rises : (i m : ℕ) → IsAwaited (work.awaits m) i → ComesBefore key i m) where
   pub linked_first : (i m : ℕ) → IsLinked (Precedes count first tree assigned) work i m → ComesBefore key i m
   linked_first i m (inl pair) = to i m pair.precedes
   linked_first i m (inr follow) = rises i m follow
@@ -62,9 +62,9 @@ module _ (tree : List Node) (assigned : List ℕ) (work : Work) (count : ℕ) (s
 
 -- what is served by a service key goes forward
 module _ (tree : List Node) (assigned : List ℕ) (work : Work) (start key : ℕ → ℕ) (issued : (m : ℕ) → IsNumber work m → issue_of work start m ≤ start m)
-    (follows : FollowsEarlier work)
-    (rises : (i m : ℕ) → work.follows m ≡ Some i → issue_of work start i ≤ start i → ComesBefore key i m) where
-  pub follower_first : (i m : ℕ) → work.follows m ≡ Some i → ComesBefore key i m
+    (follows : AwaitsEarlier work)
+    (rises : (i m : ℕ) → IsAwaited (work.awaits m) i → issue_of work start i ≤ start i → ComesBefore key i m) where
+  pub follower_first : (i m : ℕ) → IsAwaited (work.awaits m) i → ComesBefore key i m
   follower_first i m follow =
       let earlier = follows i m follow in
       rises i m follow (issued i (record { from = earlier.from; to = omega (arith, earlier.earlier, earlier.to) }))

@@ -1,11 +1,11 @@
 -- What is within Graham's bound is within a constant ratio of every worker plan.
-use Rattle.std.proofs.Common.{◌≡◌, ℕ, ◌+◌, ◌-◌, ◌*◌, ◌≤◌, List, [], ◌∷◌, Option, Some, None, eqb, arith, refl, ap, ◌∙◌, mul-zero}
+use Rattle.std.proofs.Common.{◌≡◌, ℕ, ◌+◌, ◌-◌, ◌*◌, ◌≤◌, inl, inr, List, [], ◌∷◌, arith, refl, ap, ◌∙◌, mul-zero}
 use Rattle.std.proofs.Math.Nat.{mul-le-mul_left, mul-le-mul_right}
-use Rattle.std.proofs.lemmas.Bool.{cond_both}
 use Rattle.waff_assign.specs.Order.{Relation}
-use Rattle.waff_plan.specs.Work.{Work, IsNumber, length_of, total_of, gap_after}
+use Rattle.waff_plan.specs.Work.{Work, IsAwaited, IsNumber, gap_of, length_of, total_of}
 use Rattle.waff_plan.specs.Chain.{LinksOn, IsChain, chain_cost, chain_release, gaps_after}
 use Rattle.waff_plan.proofs.Chains.{chains_are_within_length, first_is_number}
+use Rattle.waff_plan.proofs.Followings.{gap_or_awaited}
 use Rattle.waff_plan.proofs.Ticks.{total_is_within_workers}
 use Rattle.waff_plan.specs.Bound.{BoundIsWithinTwice, BoundIsWithinRatio}
 
@@ -29,28 +29,28 @@ bound_is_within_twice before work k start chain is_chain bound other plan =
     (total_is_within_workers before work k other plan)
     (chains_are_within_length before work chain other is_chain plan.obeys)
 
--- where no message has a think time, no chain has gaps
-no_gap : (think i : ℕ) (follows : Option ℕ) → think ≡ 0 → gap_after think i follows ≡ 0
-no_gap think i None none = refl
-no_gap think i (Some f) none = cond_both (eqb f i) think 0 (λ x. x ≡ 0) (λ _. none) (λ _. refl)
+-- where no message is awaited with a gap, no chain has gaps
+no_gap : (work : Work) → ((i m : ℕ) → IsAwaited (work.awaits m) i → gap_of work i m ≡ 0) → (i m : ℕ) → gap_of work i m ≡ 0
+no_gap work none i m = elim (gap_or_awaited i (work.awaits m)) [
+  | inl zero ↦ zero
+  | inr awaited ↦ none i m awaited
+]
 
-no_gaps : (before : Relation) (work : Work) → ((m : ℕ) → IsNumber work m → work.think m ≡ 0)
-    → (m : ℕ) (rest : List ℕ) → LinksOn before work m rest → gaps_after work m rest ≡ 0
-no_gaps before work none m [] h = refl
-no_gaps before work none m (next ∷ rest) h =
-    omega (arith, no_gap (work.think next) m (work.follows next) (none next (first_is_number before work next rest h.2)), no_gaps before work none next rest h.2)
+no_gaps : (work : Work) → ((i m : ℕ) → IsAwaited (work.awaits m) i → gap_of work i m ≡ 0) → (m : ℕ) (rest : List ℕ) → gaps_after work m rest ≡ 0
+no_gaps work none m [] = refl
+no_gaps work none m (next ∷ rest) = omega (arith, no_gap work none m next, no_gaps work none next rest)
 
 -- where no message has a release either, no chain has one
 no_release : (before : Relation) (work : Work) → ((m : ℕ) → IsNumber work m → work.floor m ≡ 0)
-    → ((m : ℕ) → IsNumber work m → work.think m ≡ 0)
+    → ((i m : ℕ) → IsAwaited (work.awaits m) i → gap_of work i m ≡ 0)
     → (chain : List ℕ) → IsChain before work chain → chain_release work chain ≡ 0
-no_release before work none no_think [] h = refl
-no_release before work none no_think (m ∷ rest) h =
-    omega (arith, none m (first_is_number before work m rest h), no_gaps before work no_think m rest h)
+no_release before work none no_gap [] h = refl
+no_release before work none no_gap (m ∷ rest) h =
+    omega (arith, none m (first_is_number before work m rest h), no_gaps work no_gap m rest)
 
 pub bound_is_within_ratio : (before : Relation) (work : Work) → BoundIsWithinRatio before work
-bound_is_within_ratio before work k start chain some is_chain bound none no_think other plan =
-    let zero_release : chain_release work chain ≡ 0 = no_release before work none no_think chain is_chain in
+bound_is_within_ratio before work k start chain some is_chain bound none no_gap other plan =
+    let zero_release : chain_release work chain ≡ 0 = no_release before work none no_gap chain is_chain in
     let nothing : k * chain_release work chain ≡ 0 = ap (λ n. k * n) zero_release ∙ mul-zero k in
     let within : chain_release work chain + chain_cost work chain ≤ length_of work other
     = chains_are_within_length before work chain other is_chain plan.obeys in

@@ -1,11 +1,13 @@
 -- The order of a plan's chains, by the version of its trace.
-use Rattle.std.proofs.Common.{◌≡◌, ℕ, ◌-◌, ◌<◌, inl, inr, List, length, Option, Some, None, MatchOption, arith, refl, sym}
+use Rattle.std.proofs.Common.{◌≡◌, ℕ, ◌-◌, ◌<◌, inl, inr, List, length, true, Option, Some, None, MatchOption, arith, refl, sym}
+use Rattle.std.proofs.lemmas.Bool.{false≢true}
 use Rattle.waff_model.specs.Tree.{Node}
+use Rattle.waff_model.specs.Versions.{has_clients}
 use Rattle.waff_model.specs.declared.message.Version.{Version}
 use Rattle.waff_model.specs.declared.message.Version.TheVariants.{V1, V2, V3}
 use Rattle.waff_assign.specs.Order.{IsOrdered}
 use Rattle.waff_plan.specs.Links.{IsLink}
-use Rattle.waff_plan.specs.Obeys.{EachRuns, FollowsEarlier, IsForward, IsLeast, Obeys, StartsIssued}
+use Rattle.waff_plan.specs.Obeys.{EachRuns, AwaitsEarlier, IsForward, IsLeast, Obeys, StartsIssued}
 use Rattle.waff_plan.specs.Order.{key_of}
 use Rattle.waff_plan.specs.ServesAs.{ObeysApart}
 use Rattle.waff_plan.specs.Serving.{served_before, started_before}
@@ -37,7 +39,7 @@ place_or place None = 0
 place_or place (Some m) = place m
 
 -- there is one plan that is least in the order in which it serves messages itself
-pub least_served_is_one : (version : Version) (tree : List Node) (assigned : List ℕ) (work : Work) → FollowsEarlier work → (start other : ℕ → ℕ)
+pub least_served_is_one : (version : Version) (tree : List Node) (assigned : List ℕ) (work : Work) → AwaitsEarlier work → (start other : ℕ → ℕ)
     → IsLeast (served_before version tree assigned work start) work start → IsLeast (served_before version tree assigned work other) work other
     → AreSame work start other
 least_served_is_one V1 tree assigned work follows start other one two = least_is_one (IsOrdered tree assigned) work start other one two
@@ -73,7 +75,7 @@ module _ (tree : List Node) (assigned : List ℕ) (timings : List Timing) (start
       (served_to_started version are least.obeys) (started_to_served version are least.obeys) least
 
   -- where no message starts before it is issued, messages have places in it
-  pub issued_forward : (version : Version) → AreTimings version timings → (version ≡ V3 → StartsIssued (work_of timings) start)
+  pub issued_forward : (version : Version) → AreTimings version timings → (has_clients version ≡ true → StartsIssued (work_of timings) start)
       → IsForward (started_before version tree assigned start) (work_of timings)
   issued_forward V1 are issued = timings_forward tree assigned timings (sym same) are.earlier
   issued_forward V2 are issued = timings_forward tree assigned timings (sym same) are.earlier
@@ -81,23 +83,23 @@ module _ (tree : List Node) (assigned : List ℕ) (timings : List Timing) (start
       IsStartedBefore_forward tree assigned (work_of timings) (sym same) (each_runs V3 timings are) start (issued refl) are.earlier
 
   pub started_forward : (version : Version) → AreTimings version timings
-      → (version ≡ V3 → Obeys (served_before version tree assigned (work_of timings) start) (work_of timings) start)
+      → (has_clients version ≡ true → Obeys (served_before version tree assigned (work_of timings) start) (work_of timings) start)
       → IsForward (started_before version tree assigned start) (work_of timings)
   started_forward version are obeys = issued_forward version are (λ clients. (obeys clients).issued)
 
   -- a plan that obeys the order in which it serves messages obeys apart
   pub served_obeys_apart : (version : Version) → AreTimings version timings
-      → (version ≡ V3 → Obeys (served_before version tree assigned (work_of timings) start) (work_of timings) start)
-      → version ≡ V3 → ObeysApart tree assigned (work_of timings) start
-  served_obeys_apart V1 are obeys clients = absurd (cc)
-  served_obeys_apart V2 are obeys clients = absurd (cc)
+      → (has_clients version ≡ true → Obeys (served_before version tree assigned (work_of timings) start) (work_of timings) start)
+      → has_clients version ≡ true → ObeysApart tree assigned (work_of timings) start
+  served_obeys_apart V1 are obeys clients = absurd (false≢true clients)
+  served_obeys_apart V2 are obeys clients = absurd (false≢true clients)
   served_obeys_apart V3 are obeys clients = record {
     issued = (obeys refl).issued;
     apart = served_apart tree assigned (work_of timings) (sym same) (each_runs V3 timings are) start (obeys refl);
   }
 
   -- what holds back a message has a lower place
-  pub lower_link : (version : Version) → AreTimings version timings → (version ≡ V3 → StartsIssued (work_of timings) start)
+  pub lower_link : (version : Version) → AreTimings version timings → (has_clients version ≡ true → StartsIssued (work_of timings) start)
       → (m : ℕ) (link : Option ℕ) → IsNumber (work_of timings) m → IsLink (started_before version tree assigned start) (work_of timings) start m link
       → MatchOption link (0 < place_in version (work_of timings) start m) (λ i. place_in version (work_of timings) start i < place_in version (work_of timings) start m)
   lower_link V1 are issued m None number is = number.from

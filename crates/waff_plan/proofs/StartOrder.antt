@@ -1,17 +1,17 @@
--- The order of starts: a client's messages rise in it, and what starts first goes forward in it.
-use Rattle.std.proofs.Common.{◌≡◌, ◌≢◌, ℕ, ◌<◌, ◌≤◌, ◌↔◌, ◌⊎◌, inl, inr, List, length, Some, arith, ap}
+-- The order of starts: a message starts before those that await it, and what starts first goes forward in it.
+use Rattle.std.proofs.Common.{◌≡◌, ◌≢◌, ℕ, ◌<◌, ◌≤◌, ◌↔◌, ◌⊎◌, inl, inr, List, length, arith, ap}
 use Rattle.std.proofs.lemmas.Bool.{cases_lt, cases_order}
 use Rattle.waff_model.specs.Tree.{Node, Excludes}
 use Rattle.waff_assign.specs.Order.{IsOrdered, Relation, affinity_of}
 use Rattle.waff_plan.specs.Apart.{AreApart}
 use Rattle.waff_plan.specs.Issues.{IsServedBefore}
-use Rattle.waff_plan.specs.Obeys.{EachRuns, FollowsEarlier, IsAmong, IsForward, IsLeast, IsLinked, Obeys, StartsIssued}
+use Rattle.waff_plan.specs.Obeys.{EachRuns, AwaitsEarlier, IsAmong, IsForward, IsLeast, IsLinked, Obeys, StartsIssued}
 use Rattle.waff_plan.specs.ServesAs.{ObeysApart, ServesAs}
 use Rattle.waff_plan.specs.Serving.{IsStartedBefore}
-use Rattle.waff_plan.specs.Work.{Work, IsAmongFirst, IsNumber, finish_of}
+use Rattle.waff_plan.specs.Work.{Work, IsAmongFirst, IsAwaited, IsNumber, finish_of}
 use Rattle.waff_plan.proofs.ApartLaws.{apart_where_finished, together_where_running, turned}
 use Rattle.waff_plan.proofs.Exclusion.{excludes_back}
-use Rattle.waff_plan.proofs.Holding.{followed-le-issue}
+use Rattle.waff_plan.proofs.Holding.{awaited-le-issue}
 use Rattle.waff_plan.proofs.IssueOrder.{one_is_issued_first}
 use Rattle.waff_plan.proofs.Orders.{precedes_forward}
 
@@ -153,14 +153,14 @@ module _ (tree : List Node) (assigned : List ℕ) (work : Work) (same : length a
         },
   )
 
-  module _ (start : ℕ → ℕ) (issued : StartsIssued work start) (follows : FollowsEarlier work) where
+  module _ (start : ℕ → ℕ) (issued : StartsIssued work start) (follows : AwaitsEarlier work) where
     -- along a client starts rise
-    pub start_rises : (i m : ℕ) → work.follows m ≡ Some i → start i < start m
+    pub start_rises : (i m : ℕ) → IsAwaited (work.awaits m) i → start i < start m
     start_rises i m follow =
         let earlier = follows i m follow in
         let first : IsNumber work i = record { from = earlier.from; to = omega (arith, earlier.earlier, earlier.to) } in
         let second : IsNumber work m = record { from = omega (arith, earlier.from, earlier.earlier); to = earlier.to } in
-        omega (arith, followed-le-issue work start i m follow, issued m second, runs i first)
+        omega (arith, awaited-le-issue work start i m follow, issued m second, runs i first)
 
     pub started_first : (i m : ℕ) → IsLinked (IsStartedBefore tree assigned start) work i m → start i < start m
     started_first i m (inl before) = before.precedes

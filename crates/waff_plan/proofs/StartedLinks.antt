@@ -38,7 +38,7 @@ module _ (tree : List Node) (assigned : List ℕ) (work : Work) (same : length a
     sooner = λ i m pair. pair.earlier;
   }
 
-  pub sorts : (version : Version) (start : ℕ → ℕ) → EachRuns work → (version ≡ V3 → ObeysApart tree assigned work start)
+  pub sorts : (version : Version) (start : ℕ → ℕ) → EachRuns work → (has_clients version ≡ true → ObeysApart tree assigned work start)
       → Sorts tree assigned work (chain_key version start) (started_before version tree assigned start)
   sorts V1 start runs obeys = sorts_numbers
   sorts V2 start runs obeys = sorts_numbers

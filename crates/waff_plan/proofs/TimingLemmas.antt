@@ -1,23 +1,23 @@
 -- The timings of the messages of a trace: what messages follow by their clients, and their limits.
-use Rattle.std.proofs.Common.{◌≡◌, ◌≢◌, ℕ, zero, suc, ◌-◌, ◌<◌, ◌≤◌, ◌⊎◌, inl, inr, max, true, false, List, length, Some, None, arith, refl, sym, ◌∙◌, ap, subst}
+use Rattle.std.proofs.Common.{◌≡◌, ◌≢◌, ℕ, zero, suc, ◌-◌, ◌<◌, ◌≤◌, ◌⊎◌, inl, inr, max, true, false, List, length, arith, refl, sym, ◌∙◌, ap, subst}
 use Rattle.std.specs.Str.{bytes_eq}
 use Rattle.std.proofs.Math.ListN.{get_or-map as read}
-use Rattle.std.proofs.lemmas.Bool.{cases_eq, cases_lt, cond_both, cond-false, cond-true, both_ways, false_from_ne_true}
+use Rattle.std.proofs.lemmas.Bool.{cases_eq, cases_lt, cond_both, cond-false, cond-true, both_ways, false≢true, false_from_ne_true}
 use Rattle.std.proofs.lemmas.List.{get_or_past, length-map}
 use Rattle.std.proofs.lemmas.List.FromFn.{get_or-map-range_with_len, length-map-range_with_len}
-use Rattle.std.proofs.lemmas.Option.{none-some}
 use Rattle.std.proofs.lemmas.Slice.Eq.{bytes_eq-Decides}
 use Rattle.waff_model.specs.Messages.{Arrivals, IsMessage, IsTrace, no_client}
+use Rattle.waff_model.specs.Versions.{has_clients}
 use Rattle.waff_model.specs.declared.limits.TheConstants.{MAX_RELEASE, MAX_THINK}
 use Rattle.waff_model.specs.declared.message.Message.{Message}
-use Rattle.waff_plan.specs.Work.{IsAmongFirst}
-use Rattle.waff_plan.specs.Obeys.{FollowsNone}
-use Rattle.waff_plan.specs.Clients.{client_of, last_of, one_before, IsTheOneBefore, FollowsClients}
-use Rattle.waff_plan.specs.Timing.{IsTiming, no_timing, some_number, timing_of, work_of}
+use Rattle.waff_plan.specs.Work.{IsAmongFirst, IsAwaited}
+use Rattle.waff_plan.specs.Obeys.{AwaitsNone}
+use Rattle.waff_plan.specs.Clients.{client_of, last_of, one_before, IsTheOneBefore, AwaitsClients}
+use Rattle.waff_plan.specs.Timing.{IsTiming, await_of, no_timing, timing_of, work_of}
 use Rattle.waff_plan.specs.Timetable.{AreTimings, clients_of, floor_of, message_of, no_message, timing_after, timing_at, timings_of}
 use Rattle.waff_plan.specs.declared.timing.Timing.{Timing}
 use Rattle.waff_plan.proofs.ClientLemmas.{client_follows_earlier, client_follows_once}
-use Rattle.waff_plan.proofs.FollowLemmas.{followed_some, some_number_is}
+use Rattle.waff_plan.proofs.FollowLemmas.{awaited_is, awaited_some, awaits_it, awaits_none, none_awaited}
 
 -- the bytes are the same, or not
 same_bytes : (xs ys : List ℕ) → xs ≡ ys → bytes_eq xs ys ≡ true
@@ -72,10 +72,8 @@ module _ (clients : List (List ℕ)) (i m : ℕ) (from : 1 ≤ m) (to : m ≤ le
   client : List ℕ
   client = client_of clients m
 
-  pub before_is : some_number (one_before clients m) ≡ Some i → IsTheOneBefore clients i m
-  before_is follow =
-      let is : one_before clients m ≡ i = some_number_is (one_before clients m) i follow in
-      let positive : i ≢ 0 = λ zero. none-some i (ap some_number (sym (is ∙ zero)) ∙ follow) in
+  pub before_is : i ≢ 0 → one_before clients m ≡ i → IsTheOneBefore clients i m
+  before_is positive is =
       cond_both (bytes_eq (client_of clients m) no_client) 0 (last_of clients (client_of clients m) (m - 1)) (λ x. x ≡ i → IsTheOneBefore clients i m)
       (λ none zero. absurd (positive (sym zero)))
       (λ some last.
@@ -91,16 +89,14 @@ module _ (clients : List (List ℕ)) (i m : ℕ) (from : 1 ≤ m) (to : m ≤ le
         last = λ n after before. is_last.none n after (omega (arith, before));
       }) is
 
-  pub is_before : IsTheOneBefore clients i m → some_number (one_before clients m) ≡ Some i
+  pub is_before : IsTheOneBefore clients i m → one_before clients m ≡ i
   is_before before =
       let last : IsLast clients (client_of clients m) (m - 1) i = record {
         some = λ some. (record { from = before.from; to = omega (arith, before.earlier) }, before.same);
         none = λ k after within. before.last k after (omega (arith, within, from));
       } in
-      let is : one_before clients m ≡ i
-      = cond-false (bytes_eq (client_of clients m) no_client) 0 (last_of clients (client_of clients m) (m - 1)) (other_bytes (client_of clients m) no_client before.some)
-      ∙ last_is_one clients (client_of clients m) (m - 1) (last_of clients (client_of clients m) (m - 1)) i (last_of_is clients (client_of clients m) (m - 1)) last in
-      ap some_number is ∙ followed_some i (omega (arith, before.from))
+      cond-false (bytes_eq (client_of clients m) no_client) 0 (last_of clients (client_of clients m) (m - 1)) (other_bytes (client_of clients m) no_client before.some)
+      ∙ last_is_one clients (client_of clients m) (m - 1) (last_of clients (client_of clients m) (m - 1)) i (last_of_is clients (client_of clients m) (m - 1)) last
 
 -- the first message follows none
 first_alone : (clients : List (List ℕ)) → one_before clients 1 ≡ 0
@@ -124,18 +120,18 @@ pub client_is : (messages : List Message) (m : ℕ) → client_of (clients_of me
 client_is messages m = read (λ (x : Message). x.client) messages (m - 1) no_message
 
 -- what is no message follows none
-none_there : (messages : List Message) (m : ℕ) → (IsAmongFirst (length messages) m → ⊥) → some_number (timing_of (timings_of messages) m).follows ≡ None
+none_there : (messages : List Message) (m : ℕ) → (IsAmongFirst (length messages) m → ⊥) → (timing_of (timings_of messages) m).follows ≡ 0
 none_there messages zero not_there = elim (cases_lt 0 (length messages)) [
   | inl some ↦
-      ap (λ (t : Timing). some_number t.follows) (timing_is messages 1 (record { from = omega arith; to = omega (arith, some) }))
-      ∙ ap some_number (first_alone (clients_of messages))
+      ap (λ (t : Timing). t.follows) (timing_is messages 1 (record { from = omega arith; to = omega (arith, some) }))
+      ∙ first_alone (clients_of messages)
   | inr none ↦
-      ap (λ (t : Timing). some_number t.follows) (get_or_past (timings_of messages) 0 no_timing (omega (arith, none, length-timings_of messages)))
+      ap (λ (t : Timing). t.follows) (get_or_past (timings_of messages) 0 no_timing (omega (arith, none, length-timings_of messages)))
 ]
 none_there messages (suc m) not_there = elim (cases_lt m (length messages)) [
   | inl within ↦ absurd (not_there (record { from = omega arith; to = omega (arith, within) }))
   | inr past ↦
-      ap (λ (t : Timing). some_number t.follows) (get_or_past (timings_of messages) (suc m - 1) no_timing (omega (arith, past, length-timings_of messages)))
+      ap (λ (t : Timing). t.follows) (get_or_past (timings_of messages) (suc m - 1) no_timing (omega (arith, past, length-timings_of messages)))
 ]
 
 -- m is a message, or it is none
@@ -148,36 +144,43 @@ among_or_not n m = elim (cases_lt 0 m) [
   | inr none ↦ inr (λ among. omega (arith, among.from, none))
 ]
 
--- each message follows the one before it of its client
-pub timings_follow_clients : (messages : List Message) → FollowsClients (clients_of messages) (work_of (timings_of messages))
+-- each message awaits the one before it of its client
+pub timings_follow_clients : (messages : List Message) → AwaitsClients (clients_of messages) (work_of (timings_of messages))
 timings_follow_clients messages = record {
   count = length-timings_of messages ∙ sym long;
-  follows = λ i m. (
-    λ follow. elim (among_or_not (length messages) m) [
-      | inl number ↦
-          before_is (clients_of messages) i m number.from (omega (arith, number.to, long))
-          (sym (ap (λ (t : Timing). some_number t.follows) (timing_is messages m number)) ∙ follow)
-      | inr not_there ↦ absurd (none-some i (sym (none_there messages m not_there) ∙ follow))
-    ],
-    λ before.
-        let from : 1 ≤ m = omega (arith, before.from, before.earlier) in
-        let number : IsAmongFirst (length messages) m = record { from = from; to = omega (arith, before.to, long) } in
-        ap (λ (t : Timing). some_number t.follows) (timing_is messages m number) ∙ is_before (clients_of messages) i m from before.to before,
-  );
+  awaits = λ i m.
+      let timing = timing_of (timings_of messages) m in (
+        λ awaited.
+            let is = awaited_is timing.follows timing.think i awaited in
+            let some = awaited_some timing.follows timing.think i awaited in
+            elim (among_or_not (length messages) m) [
+              | inl number ↦
+                  before_is (clients_of messages) i m number.from (omega (arith, number.to, long)) (λ zero. some (is ∙ zero))
+                  (sym (ap (λ (t : Timing). t.follows) (timing_is messages m number)) ∙ is)
+              | inr not_there ↦ absurd (some (none_there messages m not_there))
+            ],
+        λ before.
+            let from : 1 ≤ m = omega (arith, before.from, before.earlier) in
+            let number : IsAmongFirst (length messages) m = record { from = from; to = omega (arith, before.to, long) } in
+            let is : timing.follows ≡ i
+            = ap (λ (t : Timing). t.follows) (timing_is messages m number) ∙ is_before (clients_of messages) i m from before.to before in
+            subst (IsAwaited (await_of timing.follows timing.think)) is
+            (awaits_it timing.follows timing.think (λ zero. omega (arith, is, zero, before.from))),
+      );
 }
   where
     long : length (clients_of messages) ≡ length messages
     long = length-map messages (λ (x : Message). x.client)
 
--- messages of no client follow none
+-- messages of no client await none
 pub timings_alone : (messages : List Message) → ((m : ℕ) → IsAmongFirst (length messages) m → (message_of messages m).client ≡ no_client)
-    → FollowsNone (work_of (timings_of messages))
-timings_alone messages alone m = elim (among_or_not (length messages) m) [
+    → AwaitsNone (work_of (timings_of messages))
+timings_alone messages alone m = awaits_none (timing_of (timings_of messages) m).follows (timing_of (timings_of messages) m).think (elim (among_or_not (length messages) m) [
   | inl number ↦
-      ap (λ (t : Timing). some_number t.follows) (timing_is messages m number)
-      ∙ ap some_number (none_before (clients_of messages) m (client_is messages m ∙ alone m number))
+      ap (λ (t : Timing). t.follows) (timing_is messages m number)
+      ∙ none_before (clients_of messages) m (client_is messages m ∙ alone m number)
   | inr not_there ↦ none_there messages m not_there
-]
+])
 
 max_none : (n : ℕ) → max n 0 ≡ n
 max_none n = omega arith
@@ -225,5 +228,5 @@ module _ (trace : Arrivals) (is_trace : IsTrace trace) where
         (timing_small (suc k) (record { from = omega arith; to = omega (arith, short) }));
     earlier = client_follows_earlier (clients_of trace.messages) (work_of (timings_of trace.messages)) (timings_follow_clients trace.messages);
     once = client_follows_once (clients_of trace.messages) (work_of (timings_of trace.messages)) (timings_follow_clients trace.messages);
-    alone = λ early. timings_alone trace.messages (λ m number. (message_at m number).no_client early);
+    alone = λ without. timings_alone trace.messages (λ m number. (message_at m number).no_client (λ third. false≢true (sym without ∙ ap has_clients third)));
   }

@@ -10,7 +10,7 @@ use Rattle.waff_model.proofs.TreeLemmas.{above_parent, above_root}
 use Rattle.waff_assign.specs.Order.{IsOrdered, affinity_of}
 use Rattle.waff_plan.specs.Apart.{AreApart}
 use Rattle.waff_plan.specs.LowerBound.{ObeysInSomeOrder, cost_in, of_parent, path_cost}
-use Rattle.waff_plan.specs.Obeys.{FollowsNone}
+use Rattle.waff_plan.specs.Obeys.{AwaitsNone}
 use Rattle.waff_plan.specs.TreeStarts.{TreeIsReached, cost_before, tree_start}
 use Rattle.waff_plan.specs.Work.{IsNumber, Work, finish_of, greatest, length_of}
 use Rattle.waff_plan.proofs.ApartLaws.{apart_where_finished, turned}
@@ -92,7 +92,7 @@ module _ (tree : List Node) (assigned : List ℕ) (work : Work) (is : IsTree tre
         ]
       ]
 
-  obeys : length assigned ≡ work.count → FollowsNone work → ((m : ℕ) → IsNumber work m → work.floor m ≡ 0)
+  obeys : length assigned ≡ work.count → AwaitsNone work → ((m : ℕ) → IsNumber work m → work.floor m ≡ 0)
       → ObeysInSomeOrder tree assigned work None start
   obeys long none free = record {
     issued = λ m number. omega (arith, issue_is_floor work none start m, free m number);

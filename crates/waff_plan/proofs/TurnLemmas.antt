@@ -1,22 +1,22 @@
 -- The turns of messages by number: all have the same key, and the next one comes first.
-use Rattle.std.proofs.Common.{◌≡◌, ℕ, zero, suc, ◌+◌, ◌-◌, ◌<◌, ◌≤◌, inr, true, false, List, ◌∷◌, length, map, Contains, Some, arith, refl, sym, ◌∙◌, ap}
+use Rattle.std.proofs.Common.{◌≡◌, ℕ, zero, suc, ◌+◌, ◌-◌, ◌<◌, ◌≤◌, inr, true, false, List, ◌∷◌, length, map, Contains, arith, refl, sym, ◌∙◌, ap}
 use Rattle.std.specs.List.{range_with_len}
 use Rattle.std.proofs.lemmas.Bool.{false≢true}
 use Rattle.std.proofs.lemmas.List.FromFn.{get_or-map-range_with_len, length-map-range_with_len}
 use Rattle.std.proofs.lemmas.List.Sorted.{IsPermutation-refl}
-use Rattle.std.proofs.lemmas.Option.{none-some}
 use Rattle.waff_model.specs.Versions.{has_clients}
 use Rattle.waff_model.specs.declared.message.Version.{Version}
 use Rattle.waff_model.specs.declared.message.Version.TheVariants.{V1, V2, V3}
-use Rattle.waff_plan.specs.Obeys.{FollowsNone}
+use Rattle.waff_plan.specs.Obeys.{AwaitsNone}
 use Rattle.waff_plan.specs.Order.{key_of}
 use Rattle.waff_plan.specs.Due.{LeavesDue}
 use Rattle.waff_plan.specs.Pending.{AreFirst, Issue}
 use Rattle.waff_plan.specs.Timetable.{AreTimings}
 use Rattle.waff_plan.specs.Timing.{work_of}
 use Rattle.waff_plan.specs.Turns.{numbered}
-use Rattle.waff_plan.specs.Work.{Work, issue_of}
+use Rattle.waff_plan.specs.Work.{Work, IsAwaited, issue_of}
 use Rattle.waff_plan.specs.declared.timing.Timing.{Timing}
+use Rattle.waff_plan.proofs.FollowLemmas.{none_awaited}
 use Rattle.waff_plan.proofs.IssueSteps.{AreOnce, once_put}
 
 pub numbered_next : (next end : ℕ) → next < end → numbered next end ≡ (0, next) ∷ numbered (next + 1) end
@@ -55,7 +55,7 @@ take_numbered next end less =
     }
 
 -- by number all messages have their turn at first
-zero_first : (work : Work) → FollowsNone work → AreFirst work (λ start m. 0) (numbered 1 (work.count + 1))
+zero_first : (work : Work) → AwaitsNone work → AreFirst work (λ start m. 0) (numbered 1 (work.count + 1))
 zero_first work none =
     let many : work.count + 1 - 1 ≡ work.count = omega arith in
     rw many (record {
@@ -66,16 +66,14 @@ zero_first work none =
       once = once_range 1 work.count;
     })
 
--- before the third version no message follows another
-pub follows_none : (version : Version) (timings : List Timing) → AreTimings version timings → has_clients version ≡ false → FollowsNone (work_of timings)
-follows_none V1 timings are without = are.alone (λ is. false≢true (ap has_clients is))
-follows_none V2 timings are without = are.alone (λ is. false≢true (ap has_clients is))
-follows_none V3 timings are without = absurd (false≢true (sym without))
+-- without clients no message awaits another
+pub follows_none : (version : Version) (timings : List Timing) → AreTimings version timings → has_clients version ≡ false → AwaitsNone (work_of timings)
+follows_none version timings are without = are.alone without
 
-pub has_followed : (version : Version) (timings : List Timing) → AreTimings version timings → (i m : ℕ) → (work_of timings).follows m ≡ Some i → has_clients version ≡ true
-has_followed V1 timings are i m follow = absurd (none-some i (sym (follows_none V1 timings are refl m) ∙ follow))
-has_followed V2 timings are i m follow = absurd (none-some i (sym (follows_none V2 timings are refl m) ∙ follow))
-has_followed V3 timings are i m follow = refl
+pub has_followed : (version : Version) (timings : List Timing) → AreTimings version timings → (i m : ℕ) → IsAwaited ((work_of timings).awaits m) i → has_clients version ≡ true
+has_followed V1 timings are i m awaited = absurd (none_awaited ((work_of timings).awaits m) i (follows_none V1 timings are refl m) awaited)
+has_followed V2 timings are i m awaited = absurd (none_awaited ((work_of timings).awaits m) i (follows_none V2 timings are refl m) awaited)
+has_followed V3 timings are i m awaited = refl
 
 pub first_numbers : (version : Version) (timings : List Timing) → AreTimings version timings → has_clients version ≡ false
     → AreFirst (work_of timings) (key_of version (work_of timings)) (numbered 1 (length timings + 1))

@@ -3,7 +3,7 @@
 use Rattle.std.specs.Prelude.{◌≡◌, ℕ, ◌+◌, ◌-◌, ◌*◌, ◌≤◌, List}
 use Rattle.waff_model.specs.declared.limits.TheConstants.{MAX_WORKERS}
 use Rattle.waff_assign.specs.Order.{Relation}
-use Rattle.waff_plan.specs.Work.{Work, IsNumber, length_of, total_of}
+use Rattle.waff_plan.specs.Work.{Work, IsAwaited, IsNumber, gap_of, length_of, total_of}
 use Rattle.waff_plan.specs.Chain.{IsChain, chain_cost, chain_release}
 use Rattle.waff_plan.specs.Workers.{IsWorkerPlan}
 
@@ -31,11 +31,11 @@ IsWithinTwice before work k start =
     (other : ℕ → ℕ) → IsWorkerPlan before work k other
     → left_side work k start ≤ 2 * k * length_of work other
 
--- and at most 2 - 1/k times as long where no message has a release or a think time
+-- and at most 2 - 1/k times as long where no message has a release or awaits another with a gap
 abbrev pub IsWithinRatio : Relation → Work → ℕ → (ℕ → ℕ) → Type 0
 IsWithinRatio before work k start =
     ((m : ℕ) → IsNumber work m → work.floor m ≡ 0)
-    → ((m : ℕ) → IsNumber work m → work.think m ≡ 0)
+    → ((i m : ℕ) → IsAwaited (work.awaits m) i → gap_of work i m ≡ 0)
     → (other : ℕ → ℕ) → IsWorkerPlan before work k other
     → left_side work k start ≤ (2 * k - 1) * length_of work other
 

@@ -1,9 +1,9 @@
 -- What messages follow by their clients: each message the one before it of its client.
-use Rattle.std.specs.Prelude.{◌≡◌, ◌≢◌, ℕ, zero, suc, ◌-◌, ◌<◌, ◌≤◌, ◌↔◌, List, length, Some}
+use Rattle.std.specs.Prelude.{◌≡◌, ◌≢◌, ℕ, zero, suc, ◌-◌, ◌<◌, ◌≤◌, ◌↔◌, List, length}
 use Rattle.std.specs.Prelude.{slice_index_or, if◌then◌else◌}
 use Rattle.std.specs.Str.{bytes_eq}
 use Rattle.waff_model.specs.Messages.{no_client}
-use Rattle.waff_plan.specs.Work.{Work}
+use Rattle.waff_plan.specs.Work.{Work, IsAwaited}
 
 -- the client of message n, from 1, by the list of the clients of all messages
 abbrev pub client_of : List (List ℕ) → ℕ → List ℕ
@@ -31,7 +31,7 @@ pub record IsTheOneBefore (clients : List (List ℕ)) (i m : ℕ) : Type 0 where
   pub same : client_of clients i ≡ client_of clients m
   pub last : (n : ℕ) → i < n → n < m → client_of clients n ≢ client_of clients m
 
--- each message follows the one before it of its client, where there is one
-pub record FollowsClients (clients : List (List ℕ)) (work : Work) : Type 0 where
+-- each message awaits the one before it of its client, where there is one, and no other
+pub record AwaitsClients (clients : List (List ℕ)) (work : Work) : Type 0 where
   pub count : work.count ≡ length clients
-  pub follows : (i m : ℕ) → (work.follows m ≡ Some i) ↔ IsTheOneBefore clients i m
+  pub awaits : (i m : ℕ) → IsAwaited (work.awaits m) i ↔ IsTheOneBefore clients i m

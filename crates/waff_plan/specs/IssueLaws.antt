@@ -1,12 +1,12 @@
 -- What holds of plans in the order of issue.
-use Rattle.std.specs.Prelude.{◌≡◌, ℕ, ◌<◌, ◌≤◌, ◌↔◌, ◌⊎◌, List, length, Some, All}
+use Rattle.std.specs.Prelude.{◌≡◌, ℕ, ◌<◌, ◌≤◌, ◌↔◌, ◌⊎◌, List, length, All}
 use Rattle.waff_model.specs.Messages.{no_client}
 use Rattle.waff_model.specs.declared.message.Message.{Message}
 use Rattle.waff_model.specs.Tree.{Node}
 use Rattle.waff_assign.specs.Order.{Relation, IsOrdered}
-use Rattle.waff_plan.specs.Work.{Work}
+use Rattle.waff_plan.specs.Work.{Work, IsAwaited}
 pub use Rattle.waff_plan.specs.Obeys.{StartsIssued}
-use Rattle.waff_plan.specs.Obeys.{FollowsNone}
+use Rattle.waff_plan.specs.Obeys.{AwaitsNone}
 use Rattle.waff_plan.specs.Issues.{IsIssuedBefore, IsServedBefore, IsLeastByIssue}
 use Rattle.waff_plan.specs.AtOnce.{AllStartAtOnce}
 use Rattle.waff_plan.specs.Laws.{ChainsAreWithinLength, LeastIsShortest, PrintedIsChain}
@@ -41,9 +41,10 @@ pub record IssueIsTotal (work : Work) (start : ℕ → ℕ) : Type 0 where
   pub one_first : (i j : ℕ)
       → (i ≡ j) ⊎ (IsIssuedBefore work start i j ⊎ IsIssuedBefore work start j i)
 
--- a message is issued before the one that follows it
+-- a message is issued before those that await it
 abbrev pub IssueRises : Work → (ℕ → ℕ) → Type 0
-IssueRises work start = (i m : ℕ) → work.follows m ≡ Some i → IsIssuedBefore work start i m
+IssueRises work start =
+    (i m : ℕ) → IsAwaited (work.awaits m) i → IsIssuedBefore work start i m
 
 -- the unlimited plan in the order of issue is that in which each message starts at the greatest of
 -- its issue and the finishes of the messages that exclude it and are issued before it
@@ -58,10 +59,10 @@ LeastByIssueIsOne tree assigned work =
     (start other : ℕ → ℕ) → IsLeastByIssue tree assigned work start
     → IsLeastByIssue tree assigned work other → AreSame work start other
 
--- where no message follows another and releases do not fall, what is served in the order of issue is
+-- where no message awaits another and releases do not fall, what is served in the order of issue is
 -- served in that of the trace
 abbrev pub IssueIsArrival : List Node → List ℕ → Work → (ℕ → ℕ) → Type 0
 IssueIsArrival tree assigned work start =
-    length assigned ≡ work.count → FollowsNone work
+    length assigned ≡ work.count → AwaitsNone work
     → ((i j : ℕ) → i < j → work.floor i ≤ work.floor j)
     → (i j : ℕ) → IsServedBefore tree assigned work start i j ↔ IsOrdered tree assigned i j

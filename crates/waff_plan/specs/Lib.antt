@@ -3,6 +3,7 @@ pub mod Obeys
 pub mod Order
 pub mod Issues
 pub mod Due
+pub mod Awaiting
 pub mod Pending
 pub mod Turns
 pub mod AtOnce

@@ -1,10 +1,11 @@
 -- The links of a plan: for each message the one that its start waited for.
-use Rattle.std.specs.Prelude.{ℕ, ◌+◌, ◌-◌, ◌<◌, ◌≤◌, List, Option, Some, None, MatchOption, nat_lt}
-use Rattle.std.specs.Prelude.{slice_index_or, if◌then◌else◌}
+use Rattle.std.specs.Prelude.{ℕ, ◌+◌, ◌-◌, ◌<◌, ◌≤◌, List, [], ◌∷◌, Option, Some, None}
+use Rattle.std.specs.Prelude.{MatchOption, nat_lt, slice_index_or, if◌then◌else◌}
 use Rattle.waff_assign.specs.Order.{Relation}
-use Rattle.waff_plan.specs.Work.{Work, finish_of, holds_until}
+use Rattle.waff_plan.specs.Work.{Await, Work, finish_of, holds_until}
 use Rattle.waff_plan.specs.Obeys.{IsLinked}
 use Rattle.waff_plan.specs.Chain.{IsLatest}
+use Rattle.waff_plan.specs.Latest.{later_of}
 use Rattle.waff_plan.specs.declared.latest.Latest.{Latest}
 
 -- the message that m waited for: of those that hold it back the one that does so longest, where that
@@ -21,11 +22,13 @@ abbrev pub AreLinks : Relation → Work → (ℕ → ℕ) → ℕ → List (Opti
 AreLinks before work start n links =
     (m : ℕ) → 1 ≤ m → m ≤ n → IsLink before work start m (slice_index_or links (m - 1) None)
 
--- the message that message m follows, where it follows one, with the tick until which it holds back m
-abbrev pub followed_of : Work → (ℕ → ℕ) → ℕ → Option ℕ → Option Latest
-followed_of work start m None = None
-followed_of work start m (Some f) =
-    Some (record { finish = finish_of work start f + work.think m; number = f })
+-- of the latest message before one and those that it awaits the one that holds it back longest, of equal
+-- ones the one of the lowest number
+abbrev pub held_by : (ℕ → ℕ) → Option Latest → List Await → Option Latest
+held_by finish latest [] = latest
+held_by finish latest (a ∷ rest) =
+    later_of (held_by finish latest rest)
+    (Some (record { finish = finish a.message + a.gap; number = a.message }))
 
 -- the latest of some messages, where it finishes after a release
 abbrev pub link_of : Option Latest → ℕ → Option ℕ

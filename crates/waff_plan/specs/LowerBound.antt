@@ -1,7 +1,7 @@
 -- A lower bound on the length of plans that obey in whatever order: none is shorter than a worker's
 -- share of the work, than what one client needs, or than what runs on one path of affinities.
 use Rattle.std.specs.Prelude.{◌≡◌, ℕ, zero, suc, ◌+◌, ◌≤◌, ◌==◌, max, List, length, map, sum_by, Option}
-use Rattle.std.specs.Prelude.{Some, None, IfSome, option_map, if◌then◌else◌}
+use Rattle.std.specs.Prelude.{Some, None, IfSome, if◌then◌else◌}
 use Rattle.std.specs.List.{range_with_len}
 use Rattle.waff_model.specs.Tree.{IsTree, Node, parent_of}
 use Rattle.waff_assign.specs.Order.{IsOrdered, affinity_of}
@@ -9,7 +9,7 @@ use Rattle.waff_plan.specs.Apart.{AreApart}
 use Rattle.waff_plan.specs.Bound.{IsWorkers}
 use Rattle.waff_plan.specs.IssueLaws.{StartsIssued}
 use Rattle.waff_plan.specs.Laws.{share_of}
-use Rattle.waff_plan.specs.Obeys.{FollowsEarlier}
+use Rattle.waff_plan.specs.Obeys.{AwaitsEarlier}
 use Rattle.waff_plan.specs.Work.{Work, greatest, issue_after, length_of, numbers, total_of}
 use Rattle.waff_plan.specs.Workers.{running}
 
@@ -21,15 +21,15 @@ pub record ObeysInSomeOrder (tree : List Node) (assigned : List ℕ) (work : Wor
   pub apart : AreApart (IsOrdered tree assigned) work start
   pub within : (k t : ℕ) → workers ≡ Some k → running work start t ≤ k
 
--- the finish of message m where each message of its client starts as soon as it is issued, by at most
--- so many messages before it
+-- the finish of message m where each message starts as soon as it is issued, by at most so many that are
+-- awaited one after another
 abbrev pub finish_by : Work → ℕ → ℕ → ℕ
 finish_by work zero m = work.floor m + work.cost m
 finish_by work (suc n) m =
-    issue_after (work.floor m) (work.think m) (option_map (finish_by work n) (work.follows m))
-    + work.cost m
+    issue_after (finish_by work n) (work.floor m) (work.awaits m) + work.cost m
 
--- the finish of message m where it waits for its client alone: fewer than m messages are before it
+-- the finish of message m where it waits for what it awaits alone: that comes earlier, so fewer than m
+-- messages do one after another
 abbrev pub client_finish : Work → ℕ → ℕ
 client_finish work m = finish_by work m m
 
@@ -71,6 +71,6 @@ lower_bound_of workers tree assigned work =
 -- no plan that obeys in whatever order is shorter
 abbrev pub NoneIsBelow : Option ℕ → List Node → List ℕ → Work → Type 0
 NoneIsBelow workers tree assigned work =
-    IsTree tree → length assigned ≡ work.count → IfSome workers IsWorkers → FollowsEarlier work
+    IsTree tree → length assigned ≡ work.count → IfSome workers IsWorkers → AwaitsEarlier work
     → (start : ℕ → ℕ) → ObeysInSomeOrder tree assigned work workers start
     → lower_bound_of workers tree assigned work ≤ length_of work start

@@ -1,12 +1,12 @@
 -- Plans that obey an order of the messages, and the least of them. `before i j` says that message j
 -- starts only when message i has finished.
-use Rattle.std.specs.Prelude.{◌≡◌, ℕ, ◌<◌, ◌≤◌, ◌⊎◌, Some, None}
+use Rattle.std.specs.Prelude.{◌≡◌, ℕ, ◌<◌, ◌≤◌, ◌⊎◌, []}
 use Rattle.waff_assign.specs.Order.{Relation}
-use Rattle.waff_plan.specs.Work.{Work, IsNumber, finish_of, issue_of}
+use Rattle.waff_plan.specs.Work.{Work, IsAwaited, IsNumber, finish_of, issue_of}
 
--- message i holds back message m: it is before m, or m follows it
+-- message i holds back message m: it is before m, or m awaits it
 abbrev pub IsLinked : Relation → Work → Relation
-IsLinked before work i m = before i m ⊎ (work.follows m ≡ Some i)
+IsLinked before work i m = before i m ⊎ IsAwaited (work.awaits m) i
 
 -- messages have places in the order in which they are served, from 1 to their number, and what holds
 -- back another is a message that has an earlier place
@@ -24,17 +24,18 @@ pub record IsEarlier (work : Work) (i m : ℕ) : Type 0 where
   pub earlier : i < m
   pub to : m ≤ work.count
 
--- each message that follows another follows one that comes earlier in the trace
-abbrev pub FollowsEarlier : Work → Type 0
-FollowsEarlier work = (i m : ℕ) → work.follows m ≡ Some i → IsEarlier work i m
+-- what a message awaits comes earlier in the trace
+abbrev pub AwaitsEarlier : Work → Type 0
+AwaitsEarlier work = (i m : ℕ) → IsAwaited (work.awaits m) i → IsEarlier work i m
 
--- no two messages follow the same one
-abbrev pub FollowsOnce : Work → Type 0
-FollowsOnce work = (i m n : ℕ) → work.follows m ≡ Some i → work.follows n ≡ Some i → m ≡ n
+-- no two messages await the same one
+abbrev pub AwaitedOnce : Work → Type 0
+AwaitedOnce work =
+    (i m n : ℕ) → IsAwaited (work.awaits m) i → IsAwaited (work.awaits n) i → m ≡ n
 
--- no message follows another
-abbrev pub FollowsNone : Work → Type 0
-FollowsNone work = (m : ℕ) → work.follows m ≡ None
+-- no message awaits another
+abbrev pub AwaitsNone : Work → Type 0
+AwaitsNone work = (m : ℕ) → work.awaits m ≡ []
 
 -- each message runs for one tick at least
 abbrev pub EachRuns : Work → Type 0

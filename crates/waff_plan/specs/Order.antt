@@ -1,12 +1,12 @@
 -- The order in which messages are served: by a key, of equal keys by number. Before the third version
 -- all have the same key, so that what comes first in the trace is served first; in the third the key is
 -- the tick of the issue.
-use Rattle.std.specs.Prelude.{◌≡◌, ℕ, ◌<◌, ◌≤◌, ◌⊎◌, List, Some}
+use Rattle.std.specs.Prelude.{◌≡◌, ℕ, ◌<◌, ◌≤◌, ◌⊎◌, List}
 use Rattle.waff_model.specs.Tree.{Node, Excludes}
 use Rattle.waff_model.specs.declared.message.Version.{Version}
 use Rattle.waff_model.specs.declared.message.Version.TheVariants.{V1, V2, V3}
 use Rattle.waff_assign.specs.Order.{Relation, affinity_of}
-use Rattle.waff_plan.specs.Work.{Work, IsAmongFirst, issue_of}
+use Rattle.waff_plan.specs.Work.{Work, IsAmongFirst, IsAwaited, issue_of}
 
 -- the key of a message in a plan with these starts
 abbrev pub Key : Type 0
@@ -35,9 +35,9 @@ abbrev pub Serves : List Node → List ℕ → Work → (ℕ → ℕ) → Relati
 Serves tree assigned work key = Precedes work.count (ComesBefore key) tree assigned
 
 -- a key by which messages can be served one after another: it is known of a message as soon as what
--- it follows has a start, and a message comes before the one that follows it
+-- it awaits has a start, and a message comes before those that await it
 pub record IsServiceKey (work : Work) (key : Key) : Type 0 where
-  pub kept : (start other : ℕ → ℕ) (m : ℕ) → ((f : ℕ) → work.follows m ≡ Some f → start f ≡ other f)
-      → key start m ≡ key other m
-  pub rises : (start : ℕ → ℕ) (i m : ℕ) → work.follows m ≡ Some i → issue_of work start i ≤ start i
-      → ComesBefore (key start) i m
+  pub kept : (start other : ℕ → ℕ) (m : ℕ)
+      → ((i : ℕ) → IsAwaited (work.awaits m) i → start i ≡ other i) → key start m ≡ key other m
+  pub rises : (start : ℕ → ℕ) (i m : ℕ) → IsAwaited (work.awaits m) i
+      → issue_of work start i ≤ start i → ComesBefore (key start) i m

@@ -1,15 +1,15 @@
 -- A plan as a table: the timing and the start of each message, in the order of arrival.
-use Rattle.std.specs.Prelude.{◌≡◌, ◌≢◌, ℕ, zero, suc, ◌-◌, ◌≤◌, max, List, [], length, map, All}
+use Rattle.std.specs.Prelude.{◌≡◌, ℕ, zero, suc, ◌-◌, ◌≤◌, false, max, List, [], length, map, All}
 use Rattle.std.specs.Prelude.{slice_index_or, slice_set}
 use Rattle.std.specs.List.{range_with_len}
 use Rattle.waff_model.specs.Messages.{no_client}
 use Rattle.waff_model.specs.declared.limits.TheConstants.{MAX_MESSAGES}
 use Rattle.waff_model.specs.declared.message.Message.{Message}
 use Rattle.waff_model.specs.declared.message.Version.{Version}
-use Rattle.waff_model.specs.declared.message.Version.TheVariants.{V3}
+use Rattle.waff_model.specs.Versions.{has_clients}
 use Rattle.waff_model.specs.declared.limits.TheConstants.{MAX_TICK}
 use Rattle.waff_plan.specs.Clients.{one_before}
-use Rattle.waff_plan.specs.Obeys.{FollowsEarlier, FollowsNone, FollowsOnce}
+use Rattle.waff_plan.specs.Obeys.{AwaitedOnce, AwaitsEarlier, AwaitsNone}
 use Rattle.waff_plan.specs.Work.{Work}
 use Rattle.waff_plan.specs.Timing.{IsTiming, start_of, timing_of, work_of}
 use Rattle.waff_plan.specs.declared.timing.Timing.{Timing}
@@ -28,13 +28,13 @@ work_in plan = work_of plan.timings
 abbrev pub starts_in : Timetable → ℕ → ℕ
 starts_in plan = start_of plan.starts
 
--- timings within the limits of a trace of this version: a message follows an earlier one that no
--- other follows, and before the third version none
+-- timings within the limits of a trace of this version: a message awaits an earlier one that no other
+-- awaits, and without clients none
 pub record AreTimings (version : Version) (timings : List Timing) : Type 0 where
   pub small : All IsTiming timings
-  pub earlier : FollowsEarlier (work_of timings)
-  pub once : FollowsOnce (work_of timings)
-  pub alone : version ≢ V3 → FollowsNone (work_of timings)
+  pub earlier : AwaitsEarlier (work_of timings)
+  pub once : AwaitedOnce (work_of timings)
+  pub alone : has_clients version ≡ false → AwaitsNone (work_of timings)
 
 -- each message has a start, and no start is too late to be printed
 pub record IsTimetable (table : Timetable) : Type 0 where

@@ -1,8 +1,8 @@
 -- The timings and the starts of a trace's messages, as lists in the order of arrival.
-use Rattle.std.specs.Prelude.{ℕ, zero, suc, ◌-◌, ◌≤◌, List, length, Option, Some, None}
+use Rattle.std.specs.Prelude.{ℕ, zero, suc, ◌-◌, ◌≤◌, List, [], ◌∷◌, length}
 use Rattle.std.specs.Prelude.{slice_index, slice_index_or}
 use Rattle.waff_model.specs.declared.limits.TheConstants.{MAX_COST, MAX_RELEASE, MAX_THINK}
-use Rattle.waff_plan.specs.Work.{Work}
+use Rattle.waff_plan.specs.Work.{Await, Work}
 use Rattle.waff_plan.specs.declared.timing.Timing.{Timing}
 
 -- of no message
@@ -20,10 +20,10 @@ pub record IsTiming (timing : Timing) : Type 0 where
 abbrev pub timing_of : List Timing → ℕ → Timing
 timing_of timings n = slice_index_or timings (n - 1) no_timing
 
--- the message with this number, where 0 is none
-abbrev pub some_number : ℕ → Option ℕ
-some_number zero = None
-some_number (suc n) = Some (suc n)
+-- what a message awaits that follows the one with this number, 0 for none, after this think time
+abbrev pub await_of : ℕ → ℕ → List Await
+await_of zero think = []
+await_of (suc n) think = record { message = suc n; gap = think } ∷ []
 
 -- the work of messages with these timings
 abbrev pub work_of : List Timing → Work
@@ -31,8 +31,7 @@ work_of timings = record {
   count = length timings;
   cost = λ m. (timing_of timings m).cost;
   floor = λ m. (timing_of timings m).floor;
-  follows = λ m. some_number (timing_of timings m).follows;
-  think = λ m. (timing_of timings m).think;
+  awaits = λ m. await_of (timing_of timings m).follows (timing_of timings m).think;
 }
 
 -- the start of message n, from 1

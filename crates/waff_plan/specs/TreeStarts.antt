@@ -5,7 +5,7 @@ use Rattle.std.specs.List.{range_with_len}
 use Rattle.waff_model.specs.Tree.{IsTree, Node, parent_of}
 use Rattle.waff_assign.specs.Order.{affinity_of}
 use Rattle.waff_plan.specs.LowerBound.{ObeysInSomeOrder, cost_in, of_parent, path_cost}
-use Rattle.waff_plan.specs.Obeys.{FollowsNone}
+use Rattle.waff_plan.specs.Obeys.{AwaitsNone}
 use Rattle.waff_plan.specs.Work.{IsNumber, Work, greatest, length_of}
 
 -- the sum of the costs of the messages before message m that run in affinity a
@@ -17,11 +17,11 @@ abbrev pub tree_start : List Node → List ℕ → Work → ℕ → ℕ
 tree_start tree assigned work m =
     of_parent (path_cost tree assigned work) (parent_of tree (affinity_of assigned m)) + cost_before assigned work (affinity_of assigned m) m
 
--- where no message has a release, a think time or a client, they obey, and the greatest sum of the costs in an affinity and above it is
+-- where no message has a release or awaits another, they obey, and the greatest sum of the costs in an affinity and above it is
 -- their length
 abbrev pub TreeIsReached : List Node → List ℕ → Work → Type 0
 TreeIsReached tree assigned work =
-    IsTree tree → length assigned ≡ work.count → All (λ a. a < length tree) assigned → FollowsNone work
+    IsTree tree → length assigned ≡ work.count → All (λ a. a < length tree) assigned → AwaitsNone work
     → ((m : ℕ) → IsNumber work m → work.floor m ≡ 0)
     → ObeysInSomeOrder tree assigned work None (tree_start tree assigned work)
     × (length_of work (tree_start tree assigned work) ≡ greatest (map (path_cost tree assigned work) (range_with_len 0 (length tree))))

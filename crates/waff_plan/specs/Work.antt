@@ -1,20 +1,29 @@
 -- Work to be done: messages numbered from 1, each with its cost in ticks and its floor, the tick before
--- which it may not start. A message may follow another of the same client: it is issued a think time
--- after that one has finished. A plan is a map from the number of a message to its start tick.
-use Rattle.std.specs.Prelude.{ℕ, ◌+◌, ◌==◌, max, List, [], ◌∷◌, map, sum_by, Option, Some, None}
-use Rattle.std.specs.Prelude.{option_map, if◌then◌else◌}
+-- which it may not start. A message may await others, as the one before it of its client: it is issued
+-- when each of them has finished and a gap has gone by. A plan is a map from the number of a message to
+-- its start tick.
+use Rattle.std.specs.Prelude.{◌≡◌, ℕ, ◌+◌, ◌==◌, ◌⊎◌, max, List, [], ◌∷◌, map, sum_by}
+use Rattle.std.specs.Prelude.{if◌then◌else◌}
 use Rattle.std.specs.List.{range_with_len}
 pub use Rattle.waff_model.specs.Numbers.{IsAmongFirst}
 
+-- a message that another awaits, and how many ticks after its finish the other is issued at the soonest
+pub record Await : Type 0 where
+  pub message : ℕ
+  pub gap : ℕ
+
+-- message i is one of those that are awaited
+abbrev pub IsAwaited : List Await → ℕ → Type 0
+IsAwaited [] i = ⊥
+IsAwaited (a ∷ rest) i = (a.message ≡ i) ⊎ IsAwaited rest i
+
 -- how many messages there are; how many ticks each runs, and the tick before which it may not start
--- whatever the others do; the message that it follows, if it follows one, and how many ticks after the
--- finish of that one it is issued
+-- whatever the others do; and those that it awaits
 pub record Work : Type 0 where
   pub count : ℕ
   pub cost : ℕ → ℕ
   pub floor : ℕ → ℕ
-  pub follows : ℕ → Option ℕ
-  pub think : ℕ → ℕ
+  pub awaits : ℕ → List Await
 
 -- m is the number of a message
 abbrev pub IsNumber : Work → ℕ → Type 0
@@ -28,26 +37,25 @@ numbers work = range_with_len 1 work.count
 abbrev pub finish_of : Work → (ℕ → ℕ) → ℕ → ℕ
 finish_of work start m = start m + work.cost m
 
--- the issue of a message with this floor and think time, which follows none, or one that has
--- finished at this tick
-abbrev pub issue_after : ℕ → ℕ → Option ℕ → ℕ
-issue_after floor think None = floor
-issue_after floor think (Some finish) = max floor (finish + think)
+-- the issue of a message with this floor that awaits these, where messages finish at these ticks
+abbrev pub issue_after : (ℕ → ℕ) → ℕ → List Await → ℕ
+issue_after finish floor [] = floor
+issue_after finish floor (a ∷ rest) =
+    max (finish a.message + a.gap) (issue_after finish floor rest)
 
--- the tick at which message m is issued: its floor, or where that is later its think time after the
--- finish of the message that it follows
+-- the tick at which message m is issued: its floor, or where that is later the latest finish of a
+-- message that it awaits, with its gap
 abbrev pub issue_of : Work → (ℕ → ℕ) → ℕ → ℕ
-issue_of work start m =
-    issue_after (work.floor m) (work.think m) (option_map (finish_of work start) (work.follows m))
+issue_of work start m = issue_after (finish_of work start) (work.floor m) (work.awaits m)
 
--- this think time where message i is the one that is followed, else 0
-abbrev pub gap_after : ℕ → ℕ → Option ℕ → ℕ
-gap_after think i None = 0
-gap_after think i (Some followed) = if followed == i then think else 0
+-- the greatest gap with which message i is awaited, 0 where it is not
+abbrev pub gap_after : ℕ → List Await → ℕ
+gap_after i [] = 0
+gap_after i (a ∷ rest) = max (if a.message == i then a.gap else 0) (gap_after i rest)
 
 -- the gap between messages i and m: how many ticks after the finish of i message m may start
 abbrev pub gap_of : Work → ℕ → ℕ → ℕ
-gap_of work i m = gap_after (work.think m) i (work.follows m)
+gap_of work i m = gap_after i (work.awaits m)
 
 -- the tick until which message i holds back message m
 abbrev pub holds_until : Work → (ℕ → ℕ) → ℕ → ℕ → ℕ

@@ -1,4 +1,4 @@
-//! What holds of plans in the order of issue, where the messages of a client follow one another. Each
+//! What holds of plans in the order of issue, where messages await others, as those of a client the one before. Each
 //! law is a function that does nothing and whose contract is the law, for a tree of affinities and the
 //! affinities assigned to the messages.
 
@@ -7,37 +7,37 @@ ghost use Rattle.waff_model.specs.declared.message.Message.{Message};
 ghost use Rattle.waff_model.specs.Tree.{Node};
 ghost use Rattle.waff_plan.specs.Work.{IsAmongFirst, Work};
 ghost use Rattle.waff_plan.specs.Timetable.{clients_of, message_of, work_of_messages};
-ghost use Rattle.waff_plan.specs.Clients.{FollowsClients};
-ghost use Rattle.waff_plan.specs.Obeys.{FollowsEarlier, FollowsNone, FollowsOnce, IsForward};
+ghost use Rattle.waff_plan.specs.Clients.{AwaitsClients};
+ghost use Rattle.waff_plan.specs.Obeys.{AwaitsEarlier, AwaitsNone, AwaitedOnce, IsForward};
 ghost use Rattle.waff_plan.specs.Issues.{IsServedBefore};
 ghost use Rattle.waff_plan.specs.IssueLaws.{AreOfNoClient, IssueIsTotal, IssueRises, StartsIssued, IsLawful};
 ghost use Rattle.waff_plan.specs.IssueLaws.{LeastStartsAtOnce, LeastByIssueIsOne, IssueIsArrival};
 
-/// In a trace each message follows the one before it of its client.
+/// In a trace each message awaits the one before it of its client.
 pub fn traces_follow_clients()
     ensures { (messages : List Message)
-        → FollowsClients (clients_of messages) (work_of_messages messages) }
+        → AwaitsClients (clients_of messages) (work_of_messages messages) }
 {}
 
-/// Messages of no client follow none, and have their own releases.
+/// Messages of no client await none, and have their own releases.
 pub fn no_clients_are_followed()
     ensures none { (messages : List Message) → AreOfNoClient messages
-        → FollowsNone (work_of_messages messages) }
+        → AwaitsNone (work_of_messages messages) }
     ensures released { (messages : List Message) → AreOfNoClient messages
         → (m : ℕ) → IsAmongFirst (length messages) m
         → (work_of_messages messages).floor m ≡ (message_of messages m).release }
 {}
 
-/// What a message follows by its client comes earlier in the trace.
+/// What a message awaits by its client comes earlier in the trace.
 pub fn clients_follow_earlier()
-    ensures { (clients : List (List ℕ)) (work : Work) → FollowsClients clients work
-        → FollowsEarlier work }
+    ensures { (clients : List (List ℕ)) (work : Work) → AwaitsClients clients work
+        → AwaitsEarlier work }
 {}
 
-/// By their clients no two messages follow the same one.
+/// By their clients no two messages await the same one.
 pub fn clients_follow_once()
-    ensures { (clients : List (List ℕ)) (work : Work) → FollowsClients clients work
-        → FollowsOnce work }
+    ensures { (clients : List (List ℕ)) (work : Work) → AwaitsClients clients work
+        → AwaitedOnce work }
 {}
 
 /// The order of issue is total.
@@ -45,16 +45,16 @@ pub fn issue_is_total()
     ensures { (work : Work) (start : ℕ → ℕ) → IssueIsTotal work start }
 {}
 
-/// Along a client issue rises.
+/// A message is issued before those that await it.
 pub fn issue_rises()
-    ensures { (work : Work) (start : ℕ → ℕ) → FollowsEarlier work → StartsIssued work start
+    ensures { (work : Work) (start : ℕ → ℕ) → AwaitsEarlier work → StartsIssued work start
         → IssueRises work start }
 {}
 
 /// Messages have places in the order of issue of a plan.
 pub fn served_pairs_are_forward()
     ensures { (tree : List Node) (assigned : List ℕ) (work : Work) (start : ℕ → ℕ)
-        → FollowsEarlier work → StartsIssued work start
+        → AwaitsEarlier work → StartsIssued work start
         → IsForward (IsServedBefore tree assigned work start) work }
 {}
 
@@ -62,20 +62,20 @@ pub fn served_pairs_are_forward()
 /// messages that exclude each other in that order.
 pub fn issue_is_lawful()
     ensures { (tree : List Node) (assigned : List ℕ) (work : Work) (start : ℕ → ℕ)
-        → FollowsEarlier work → StartsIssued work start
+        → AwaitsEarlier work → StartsIssued work start
         → IsLawful (IsServedBefore tree assigned work start) work }
 {}
 
 /// The unlimited plan in the order of issue, in other words.
 pub fn least_starts_at_once()
     ensures { (tree : List Node) (assigned : List ℕ) (work : Work) (start : ℕ → ℕ)
-        → FollowsEarlier work → LeastStartsAtOnce tree assigned work start }
+        → AwaitsEarlier work → LeastStartsAtOnce tree assigned work start }
 {}
 
 /// There is one unlimited plan in the order of issue.
 pub fn least_by_issue_is_one()
     ensures { (tree : List Node) (assigned : List ℕ) (work : Work)
-        → FollowsEarlier work → LeastByIssueIsOne tree assigned work }
+        → AwaitsEarlier work → LeastByIssueIsOne tree assigned work }
 {}
 
 /// Without clients and with releases that do not fall the order of issue is that of the trace.

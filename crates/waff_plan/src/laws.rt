@@ -6,7 +6,7 @@ ghost use Rattle.std.specs.Prelude.{◌≡◌, ℕ, List, length};
 ghost use Rattle.waff_model.specs.Tree.{Node};
 ghost use Rattle.waff_assign.specs.Order.{IsOrdered, Refines};
 ghost use Rattle.waff_plan.specs.Work.{Work};
-ghost use Rattle.waff_plan.specs.Obeys.{FollowsEarlier};
+ghost use Rattle.waff_plan.specs.Obeys.{AwaitsEarlier};
 ghost use Rattle.waff_plan.specs.Laws.{ChainsAreWithinLength, LeastIsShortest, PrintedIsChain};
 ghost use Rattle.waff_plan.specs.Laws.{PrintedIsAsLong, TotalIsWithinWorkers, NoneIsShorter};
 ghost use Rattle.waff_plan.specs.Laws.{LeastIsNoLonger};
@@ -27,13 +27,13 @@ pub fn least_is_shortest()
 /// The printed chain of a plan is a chain.
 pub fn printed_is_chain()
     ensures { (tree : List Node) (assigned : List ℕ) (work : Work) → length assigned ≡ work.count
-        → FollowsEarlier work → PrintedIsChain (IsOrdered tree assigned) work }
+        → AwaitsEarlier work → PrintedIsChain (IsOrdered tree assigned) work }
 {}
 
 /// The printed chain of the least plan certifies its length.
 pub fn printed_is_as_long()
     ensures { (tree : List Node) (assigned : List ℕ) (work : Work) → length assigned ≡ work.count
-        → FollowsEarlier work → PrintedIsAsLong (IsOrdered tree assigned) work }
+        → AwaitsEarlier work → PrintedIsAsLong (IsOrdered tree assigned) work }
 {}
 
 /// In every worker plan for k the total is at most k times the length.

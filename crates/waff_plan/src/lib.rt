@@ -1,10 +1,12 @@
 //! The unlimited plan of a trace, its printed chain, and the laws of plans.
 //!
 //! A plan gives each message a start, in ticks; it obeys where a message starts when all messages
-//! that exclude it and are served before it have finished, and not before its issue. Served first is
-//! what comes first in the trace, or where messages are of clients what is issued first. The
-//! unlimited plan is the least that obeys, message by message. Its chain shows that no shorter plan
-//! obeys: messages that wait for one another, whose first release and costs add up to the length.
+//! that exclude it and are served before it have finished, and not before its issue. It is issued when
+//! those that it awaits have finished, each with a gap: of a client's messages each awaits the one
+//! before. Served first is what comes first in the trace, or where messages are of clients what is
+//! issued first. The unlimited plan is the least that obeys, message by message. Its chain shows that
+//! no shorter plan obeys: messages that wait for one another, whose first release and costs add up to
+//! the length.
 //! The planner walks over the messages once, with two tables by place. A message notes its finish for
 //! all places of its span, and it stands at its first place; so the latest message that excludes
 //! another is found in the two tables. Places are cut into blocks of 64: a span that holds a whole
@@ -12,7 +14,8 @@
 //! excludes every other.
 //! - `timing`, `timetable`: costs and releases; plans.
 //! - `unlimited`: the unlimited plan, and its links. It takes messages in `turns`: by number, or
-//!   where they are of clients by issue, over `followers` and `due`.
+//!   where they are of clients by issue, over `due`. Who awaits whom is counted (`awaiting`), so that a
+//!   message has its turn when all that it awaits have had theirs.
 //! - `table`, over `last`: the latest message that excludes another, by spans in preorder.
 //! - `sequence`: the messages of a plan one after another, by number or by start.
 //! - `printed`, over `linked`: the printed chain; `waited`: what messages waited for; both over
@@ -37,8 +40,8 @@
 #![tactic(auto)]
 
 pub mod apart;
+pub mod awaiting;
 mod due;
-pub mod followers;
 pub mod issue_laws;
 mod last;
 mod latest;

@@ -1,7 +1,7 @@
 //! The printed chain of a plan.
 
-ghost use Rattle.std.specs.Prelude.{◌≡◌, ◌+◌, ◌<◌, length, All, IfOk, MatchOption, OnOk};
-ghost use Rattle.waff_model.specs.declared.message.Version.TheVariants.{V3};
+ghost use Rattle.std.specs.Prelude.{◌≡◌, ◌+◌, ◌<◌, true, length, All, IfOk, MatchOption, OnOk};
+ghost use Rattle.waff_model.specs.Versions.{has_clients};
 ghost use Rattle.waff_plan.specs.Chain.{IsChain, IsLatest, IsListed, IsPrinted};
 ghost use Rattle.waff_plan.specs.Chain.{chain_cost, chain_release};
 ghost use Rattle.waff_plan.specs.Links.{AreLinks};
@@ -31,7 +31,7 @@ pub fn chain(
 ) -> Result<Chain, AllocError>
     requires lengths { length plan.now.timings ≡ length assigned.now }
     requires known { All (λ a. a < length tree.now) assigned.now }
-    requires served { plan.now.version ≡ V3 → Obeys (served_in tree.now assigned.now plan.now)
+    requires served { has_clients plan.now.version ≡ true → Obeys (served_in tree.now assigned.now plan.now)
         (work_in plan.now) (starts_in plan.now) }
     ensures printed { IfOk result (λ chain. IsPrinted (started_in tree.now assigned.now plan.now)
         (work_in plan.now) (starts_in plan.now) chain.messages) }
@@ -66,7 +66,7 @@ pub fn started_chain(
 ) -> Result<Vec<u32>, AllocError>
     requires lengths { length plan.now.timings ≡ length assigned.now }
     requires known { All (λ a. a < length tree.now) assigned.now }
-    requires apart { plan.now.version ≡ V3 → ObeysApart tree.now assigned.now
+    requires apart { has_clients plan.now.version ≡ true → ObeysApart tree.now assigned.now
         (work_in plan.now) (starts_in plan.now) }
     ensures printed { IfOk result (λ chain. IsPrinted (started_in tree.now assigned.now plan.now)
         (work_in plan.now) (starts_in plan.now) chain.items) }
@@ -87,7 +87,7 @@ pub fn linked_chain(
     links: &[Option<u32>],
 ) -> Result<Chain, AllocError>
     requires lengths { length plan.now.timings ≡ length assigned.now }
-    requires served { plan.now.version ≡ V3 → Obeys (served_in tree.now assigned.now plan.now)
+    requires served { has_clients plan.now.version ≡ true → Obeys (served_in tree.now assigned.now plan.now)
         (work_in plan.now) (starts_in plan.now) }
     requires count { length links.now ≡ length plan.now.timings }
     requires links { AreLinks (started_in tree.now assigned.now plan.now)
@@ -124,7 +124,7 @@ fn walk(
     links: &[Option<u32>],
 ) -> Result<Vec<u32>, AllocError>
     requires lengths { length plan.now.timings ≡ length assigned.now }
-    requires apart { plan.now.version ≡ V3 → ObeysApart tree.now assigned.now
+    requires apart { has_clients plan.now.version ≡ true → ObeysApart tree.now assigned.now
         (work_in plan.now) (starts_in plan.now) }
     requires count { length links.now ≡ length plan.now.timings }
     requires links { AreLinks (started_in tree.now assigned.now plan.now)

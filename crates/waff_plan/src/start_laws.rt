@@ -9,14 +9,14 @@ ghost use Rattle.waff_plan.specs.Work.{Work};
 ghost use Rattle.waff_plan.specs.Apart.{AreApart};
 ghost use Rattle.waff_plan.specs.Issues.{IsServedBefore};
 ghost use Rattle.waff_plan.specs.IssueLaws.{IsLawful};
-ghost use Rattle.waff_plan.specs.Obeys.{EachRuns, FollowsEarlier, IsForward, Obeys, StartsIssued};
+ghost use Rattle.waff_plan.specs.Obeys.{EachRuns, AwaitsEarlier, IsForward, Obeys, StartsIssued};
 ghost use Rattle.waff_plan.specs.ServesAs.{ObeysApart, ServesAs};
 ghost use Rattle.waff_plan.specs.Serving.{IsStartedBefore};
 
 /// Messages have places in the order of the starts of a plan.
 pub fn started_pairs_are_forward()
     ensures { (tree : List Node) (assigned : List ℕ) (work : Work) (start : ℕ → ℕ)
-        → length assigned ≡ work.count → EachRuns work → FollowsEarlier work
+        → length assigned ≡ work.count → EachRuns work → AwaitsEarlier work
         → StartsIssued work start → IsForward (IsStartedBefore tree assigned start) work }
 {}
 
@@ -24,7 +24,7 @@ pub fn started_pairs_are_forward()
 /// obey that order.
 pub fn start_is_lawful()
     ensures { (tree : List Node) (assigned : List ℕ) (work : Work) (start : ℕ → ℕ)
-        → length assigned ≡ work.count → EachRuns work → FollowsEarlier work
+        → length assigned ≡ work.count → EachRuns work → AwaitsEarlier work
         → StartsIssued work start → IsLawful (IsStartedBefore tree assigned start) work }
 {}
 

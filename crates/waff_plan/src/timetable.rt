@@ -201,7 +201,7 @@ impl Plan {
     {
         match self.follows(n) {
             0 => self.release(n),
-            before => self.release(n).max(self.finish(before) + self.think(n)),
+            before => (self.finish(before) + self.think(n)).max(self.release(n)),
         }
     }
 

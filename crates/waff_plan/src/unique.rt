@@ -6,7 +6,7 @@ ghost use Rattle.std.specs.Prelude.{◌≡◌, ℕ, List, length};
 ghost use Rattle.waff_model.specs.Tree.{Node};
 ghost use Rattle.waff_assign.specs.Order.{IsOrdered};
 ghost use Rattle.waff_plan.specs.Work.{Work};
-ghost use Rattle.waff_plan.specs.Obeys.{FollowsEarlier};
+ghost use Rattle.waff_plan.specs.Obeys.{AwaitsEarlier};
 ghost use Rattle.waff_plan.specs.Unique.{LeastIsOne, LeastServedIsOne, PrintedIsOne};
 ghost use Rattle.waff_model.specs.declared.message.Version.{Version};
 
@@ -19,12 +19,12 @@ pub fn least_is_one()
 /// There is one plan that is least in the order in which it is to serve messages.
 pub fn least_served_is_one()
     ensures same { (version : Version) (tree : List Node) (assigned : List ℕ) (work : Work)
-        → FollowsEarlier work → LeastServedIsOne version tree assigned work }
+        → AwaitsEarlier work → LeastServedIsOne version tree assigned work }
 {}
 
 /// A plan has one printed chain.
 pub fn printed_is_one()
     ensures equal { (tree : List Node) (assigned : List ℕ) (work : Work)
-        → length assigned ≡ work.count → FollowsEarlier work
+        → length assigned ≡ work.count → AwaitsEarlier work
         → PrintedIsOne (IsOrdered tree assigned) work }
 {}

@@ -1,7 +1,7 @@
 //! What the messages of a plan waited for, but for what they follow.
 
-ghost use Rattle.std.specs.Prelude.{◌≡◌, ◌<◌, ◌≤◌, length, All, IfOk, OnOk};
-ghost use Rattle.waff_model.specs.declared.message.Version.TheVariants.{V3};
+ghost use Rattle.std.specs.Prelude.{◌≡◌, ◌<◌, ◌≤◌, true, length, All, IfOk, OnOk};
+ghost use Rattle.waff_model.specs.Versions.{has_clients};
 ghost use Rattle.waff_plan.specs.Obeys.{Obeys};
 ghost use Rattle.waff_plan.specs.Serving.{served_in, started_in};
 ghost use Rattle.waff_plan.specs.Timetable.{work_in, starts_in};
@@ -25,7 +25,7 @@ pub fn waited(
 ) -> Result<Vec<Option<u32>>, AllocError>
     requires lengths { length plan.now.timings ≡ length assigned.now }
     requires known { All (λ a. a < length tree.now) assigned.now }
-    requires served { plan.now.version ≡ V3 → Obeys (served_in tree.now assigned.now plan.now)
+    requires served { has_clients plan.now.version ≡ true → Obeys (served_in tree.now assigned.now plan.now)
         (work_in plan.now) (starts_in plan.now) }
     ensures count { IfOk result (λ waited. length waited.items ≡ length plan.now.timings) }
     ensures few { OnOk result (length plan.now.timings ≤ MAX_MESSAGES) }

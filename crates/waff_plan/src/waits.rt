@@ -1,14 +1,14 @@
 //! For each message of a plan the one that it waited for, since its release or since its issue.
 
-ghost use Rattle.std.specs.Prelude.{◌≡◌, ◌<◌, length, All, IfOk};
-ghost use Rattle.waff_model.specs.declared.message.Version.TheVariants.{V3};
+ghost use Rattle.std.specs.Prelude.{◌≡◌, ◌<◌, true, length, All, IfOk};
+ghost use Rattle.waff_model.specs.Versions.{has_clients};
 ghost use Rattle.waff_plan.specs.Latest.{later_of};
-ghost use Rattle.waff_plan.specs.Links.{followed_of, link_of};
+ghost use Rattle.waff_plan.specs.Links.{held_by, link_of};
 ghost use Rattle.waff_plan.specs.ServesAs.{ObeysApart};
 ghost use Rattle.waff_plan.specs.Serving.{started_in};
 ghost use Rattle.waff_plan.specs.Timetable.{work_in, starts_in};
 ghost use Rattle.waff_plan.specs.Waits.{AreWaits, wait_of};
-ghost use Rattle.waff_plan.specs.Work.{IsNumber};
+ghost use Rattle.waff_plan.specs.Work.{IsNumber, finish_of};
 
 use crate::Plan;
 use crate::latest::{Latest, is_later};
@@ -37,7 +37,7 @@ pub(crate) fn waits(
 ) -> Result<Vec<Option<u32>>, AllocError>
     requires lengths { length plan.now.timings ≡ length assigned.now }
     requires known { All (λ a. a < length tree.now) assigned.now }
-    requires apart { plan.now.version ≡ V3 → ObeysApart tree.now assigned.now
+    requires apart { has_clients plan.now.version ≡ true → ObeysApart tree.now assigned.now
         (work_in plan.now) (starts_in plan.now) }
     ensures count { IfOk result (λ waits. length waits.items ≡ length plan.now.timings) }
     ensures waits { IfOk result (λ waits.
@@ -65,26 +65,27 @@ pub(crate) fn wait(plan: &Plan, m: u32, latest: Option<Latest>, since: Since) ->
     ensures { result ≡ wait_of since (work_in plan.now) (starts_in plan.now) m latest }
 {
     match since {
-        Since::Release => waited_for(later(latest, followed(plan, m)), plan.release(m)),
+        Since::Release => waited_for(held_by(plan, m, latest), plan.release(m)),
         Since::Issue => waited_for(latest, plan.issue(m)),
     }
 }
 
-/// The message that message `m` follows, where it follows one, with the tick until which it holds
-/// back `m`.
-fn followed(plan: &Plan, m: u32) -> Option<Latest>
+/// What holds message `m` back longest: the latest of those before it that exclude it, or the one that it
+/// follows.
+fn held_by(plan: &Plan, m: u32, latest: Option<Latest>) -> Option<Latest>
     requires number { IsNumber (work_in plan.now) m }
-    ensures { result ≡ followed_of (work_in plan.now) (starts_in plan.now) m
-        ((work_in plan.now).follows m) }
+    ensures { result ≡ held_by (finish_of (work_in plan.now) (starts_in plan.now)) latest
+        ((work_in plan.now).awaits m) }
 {
     match plan.follows(m) {
-        0 => None,
+        0 => latest,
         before => {
             let finish = plan.finish(before) + plan.think(m);
-            Some(Latest {
+            let followed = Latest {
                 finish,
                 number: before,
-            })
+            };
+            later(latest, Some(followed))
         }
     }
 }

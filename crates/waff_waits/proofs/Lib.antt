@@ -4,3 +4,4 @@ pub mod OrderingLemmas
 mod TrailLemmas
 mod Counting
 pub mod Waiting
+pub mod LettingGo

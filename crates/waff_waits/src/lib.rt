@@ -13,7 +13,7 @@
 //! waits for is counted; that the counts are right is a fact of the type, and no clause speaks of
 //! them.
 //!
-//! Tests: none of its own. The plans for k workers in `test_worked` and `test_slow` rest on it.
+//! Tests: none of its own. The plans in `test_worked` and `test_slow` rest on it.
 #![tactic(auto)]
 
 mod link;

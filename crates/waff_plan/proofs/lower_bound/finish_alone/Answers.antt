@@ -1,10 +1,10 @@
 -- The finish of a message by that of the one that it follows.
-use Rattle.std.proofs.Common.{◌≡◌, ◌≢◌, ◌+◌, ◌-◌, get_or, Some, None, arith, sym, ◌∙◌, ap}
+use Rattle.std.proofs.Common.{◌≡◌, ◌≢◌, ◌+◌, ◌-◌, get_or, arith, sym, ◌∙◌, ap}
 use Rattle.waff_plan.specs.LowerBound.{client_finish}
-use Rattle.waff_plan.specs.Timing.{some_number}
+use Rattle.waff_plan.specs.Timing.{timing_of}
 use Rattle.waff_plan.specs.Timetable.{work_in}
-use Rattle.waff_plan.proofs.FollowLemmas.{followed_some}
-use Rattle.waff_plan.proofs.LowerBounds.{client_after, client_alone, each_small, finish_at, timing_limits}
+use Rattle.waff_plan.proofs.FollowLemmas.{awaits_it, issue_after_none, issue_after_one}
+use Rattle.waff_plan.proofs.LowerBounds.{client_is, each_small, finish_at, timing_limits}
 use Rattle.waff_plan.proofs.lower_bound.finish_alone.Goals as goal
 use Rattle.waff_plan.proofs.lower_bound.finish_alone.Goals.{then-before-eq0, else-before-eq0}
 
@@ -44,17 +44,21 @@ returns c =
     let work = work_in c.args.plan.now in
     let n = c.args.n in
     let f = c.follows-before.result in
-    let follows = c.len-messages.ensures.table.timings.earlier in
+    let earlier = c.len-messages.ensures.table.timings.earlier in
+    let timing = timing_of c.args.plan.now.timings n in
+    let is : f ≡ timing.follows = c.follows-before.ensures.follows in
+    let by = client_is work earlier n c.requires.number in
     elim c.if-before-eq0.branch [
       | then-before-eq0 w ↦
-          (let none : work.follows n ≡ None = ap some_number (sym c.follows-before.ensures.follows ∙ w.if-before-eq0.true) in
-          omega (arith, w.issue-is, w.release-issue.ensures.release, c.cost.ensures.cost, client_alone work follows n c.requires.number none))
+          (let none = issue_after_none (client_finish work) (work.floor n) timing.follows timing.think (sym is ∙ w.if-before-eq0.true) in
+          omega (arith, w.issue-is, w.release-issue.ensures.release, c.cost.ensures.cost, by, none))
       | else-before-eq0 w ↦
-          (let not_none : f ≢ 0 = w.if-before-eq0.false in
-          let some : work.follows n ≡ Some f = ap some_number (sym c.follows-before.ensures.follows) ∙ followed_some f not_none in
-          let earlier = follows f n some in
+          (let not_none : timing.follows ≢ 0 = λ none. w.if-before-eq0.false (is ∙ none) in
+          let before = earlier timing.follows n (awaits_it timing.follows timing.think not_none) in
+          let issue = issue_after_one (client_finish work) (work.floor n) timing.follows timing.think not_none in
           let read : get_or c.args.finishes.now (f - 1) 0 ≡ client_finish work (f - 1 + 1)
-          = finish_at work c.args.finishes.now c.requires.finishes (omega (arith, c.requires.before, c.requires.number.to)) (f - 1) (omega (arith, earlier.from, earlier.earlier, c.requires.before)) in
-          let same : client_finish work (f - 1 + 1) ≡ client_finish work f = ap (client_finish work) (let one : f - 1 + 1 ≡ f = omega (arith, earlier.from) in one) in
-          omega (arith, w.issue-is, w.max-issue.ensures, w.release.ensures.release, w.think.ensures.think, c.cost.ensures.cost, read, same, client_after work follows n f c.requires.number some))
+          = finish_at work c.args.finishes.now c.requires.finishes (omega (arith, c.requires.before, c.requires.number.to)) (f - 1) (omega (arith, is, before.from, before.earlier, c.requires.before)) in
+          let same : client_finish work (f - 1 + 1) ≡ client_finish work timing.follows
+          = ap (client_finish work) (let one : f - 1 + 1 ≡ timing.follows = omega (arith, is, before.from) in one) in
+          omega (arith, w.issue-is, w.max-issue.ensures, w.release.ensures.release, w.think.ensures.think, c.cost.ensures.cost, read, same, by, issue))
     ]

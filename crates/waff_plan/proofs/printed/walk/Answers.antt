@@ -1,7 +1,7 @@
-use Rattle.std.proofs.Common.{◌≡◌, ℕ, ◌+◌, ◌-◌, ◌<◌, [], ◌∷◌, List, length, get_or, reverse, Option, Some, None, MatchOption, arith, sym, ◌∙◌, ap, subst}
+use Rattle.std.proofs.Common.{◌≡◌, ℕ, ◌+◌, ◌-◌, ◌<◌, true, [], ◌∷◌, List, length, get_or, reverse, Option, Some, None, MatchOption, arith, sym, ◌∙◌, ap, subst}
 use Rattle.std.proofs.lemmas.List.{reverse-append}
 use Rattle.waff_model.specs.Tree.{Node}
-use Rattle.waff_model.specs.declared.message.Version.TheVariants.{V3}
+use Rattle.waff_model.specs.Versions.{has_clients}
 use Rattle.waff_plan.specs.Chain.{IsChain, IsListed, IsPrinted}
 use Rattle.waff_plan.specs.Obeys.{StartsIssued}
 use Rattle.waff_plan.specs.Serving.{started_in}
@@ -46,7 +46,7 @@ loop-next-preserved c =
     m (reverse messages) next taken waited)
 
 -- a printed chain is a chain
-chain_from : (tree : List Node) (assigned : List ℕ) (plan : Timetable) (messages : List ℕ) → (plan.version ≡ V3 → StartsIssued (work_in plan) (starts_in plan)) → IsTimetable plan → length plan.timings ≡ length assigned
+chain_from : (tree : List Node) (assigned : List ℕ) (plan : Timetable) (messages : List ℕ) → (has_clients plan.version ≡ true → StartsIssued (work_in plan) (starts_in plan)) → IsTimetable plan → length plan.timings ≡ length assigned
     → IsPrinted (started_in tree assigned plan) (work_in plan) (starts_in plan) messages
     → IsChain (started_in tree assigned plan) (work_in plan) messages
 chain_from tree assigned plan messages issued table same h =
@@ -54,7 +54,7 @@ chain_from tree assigned plan messages issued table same h =
     (starts_in plan) messages h
 
 -- its messages are messages, at most as many as there are
-listed_from : (tree : List Node) (assigned : List ℕ) (plan : Timetable) (messages : List ℕ) → (plan.version ≡ V3 → StartsIssued (work_in plan) (starts_in plan)) → IsTimetable plan → length plan.timings ≡ length assigned
+listed_from : (tree : List Node) (assigned : List ℕ) (plan : Timetable) (messages : List ℕ) → (has_clients plan.version ≡ true → StartsIssued (work_in plan) (starts_in plan)) → IsTimetable plan → length plan.timings ≡ length assigned
     → IsPrinted (started_in tree assigned plan) (work_in plan) (starts_in plan) messages
     → IsListed (length plan.timings) messages
 listed_from tree assigned plan messages issued table same h =

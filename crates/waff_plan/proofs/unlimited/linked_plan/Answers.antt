@@ -1,6 +1,5 @@
 -- Messages are taken in the order in which they are served.
-use Rattle.std.proofs.Common.{◌≡◌, ℕ, ◌-◌, ◌<◌, ◌≤◌, max, true, List, [], ◌∷◌, ◌++◌, length, get_or, Option, Some, MatchOption, arith, sym, ◌∙◌, ap, subst}
-use Rattle.std.proofs.lemmas.List.{get_or_default}
+use Rattle.std.proofs.Common.{◌≡◌, ℕ, ◌-◌, ◌<◌, ◌≤◌, inl, inr, max, true, List, [], ◌∷◌, ◌++◌, length, Contains, Option, MatchOption, arith, sym, ◌∙◌, ap, subst}
 use Rattle.waff_model.specs.Numbers.{IsAmongFirst}
 use Rattle.waff_model.specs.Preorder.{span_at}
 use Rattle.waff_model.specs.Versions.{has_clients}
@@ -12,16 +11,19 @@ use Rattle.waff_assign.specs.Order.{affinity_of}
 use Rattle.waff_plan.specs.Links.{AreLinks}
 use Rattle.waff_plan.specs.Obeys.{IsLeast}
 use Rattle.waff_plan.specs.Order.{IsServiceKey, Key, Serves, key_of}
-use Rattle.waff_plan.specs.Pending.{AreFollowers, Issue, IsFollower}
+use Rattle.waff_plan.specs.Awaiting.{AreAwaiting}
+use Rattle.waff_plan.specs.Pending.{Issue}
 use Rattle.waff_plan.specs.Serving.{served_before, started_in}
 use Rattle.waff_plan.specs.Table.{IsLatestExcluding, IsLatestMeeting, IsTable}
 use Rattle.waff_plan.specs.Timetable.{AreTimings, Timetable, starts_in, with_start, work_in}
 use Rattle.waff_plan.specs.Timing.{start_of, work_of}
 use Rattle.waff_plan.specs.Turns.{turns_in}
 use Rattle.waff_plan.specs.Work.{Work, IsNumber, finish_of, issue_of}
+use Rattle.waff_waits.specs.Waits.{waiting_for}
 use Rattle.waff_plan.specs.declared.latest.Latest.{Latest}
 use Rattle.waff_plan.specs.declared.timing.Timing.{Timing}
-use Rattle.waff_plan.proofs.IssueLoop.{IsSmall, going_first, going_next, going_on, m_number, small_work, some_left, start_printable}
+use Rattle.waff_plan.proofs.AwaitingLemmas.{waiting_awaits, waiting_number, waits_count}
+use Rattle.waff_plan.proofs.IssueLoop.{IsSmall, apart as untaken_yet, going_first, going_on, m_number, small_work, some_left, start_printable}
 use Rattle.waff_plan.proofs.IssueSteps.{ArePending, AreTaken, least_from_taken, links_from_taken}
 use Rattle.waff_plan.proofs.Orders.{served_by_key, service_key}
 use Rattle.waff_plan.proofs.ServingLemmas.{least_started, served_to_started, started_to_served}
@@ -74,14 +76,14 @@ small c = small_work c.loop-m.plan.timings (are c).small
 
 number : (c : In-Some) → IsNumber (work_now c) c.in-Some.m
 number c =
-    m_number c.args.tree.now c.spans-spans.result.now c.args.assigned.now (work_now c) (key_now c) (service c) (are c).earlier (are c).once
-    (few c) (small c) (starts_now c) (order_now c) c.loop-m.links.items c.loop-m.left (turns_in c.loop-m.turns) (turns_in c.take.new.self) c.loop-m.table (taken c)
+    m_number c.args.tree.now c.spans-spans.result.now c.args.assigned.now (work_now c) (key_now c) (service c) (are c).earlier
+    (few c) (small c) (starts_now c) (order_now c) c.loop-m.links.items c.loop-m.left (turns_in c.loop-m.turns) (turns_in c.take.new.self) c.loop-m.waits c.loop-m.table (taken c)
     c.loop-m.invariant.going c.in-Some.ensures.taken
 
 left : (c : In-Some) → 1 ≤ c.loop-m.left
 left c =
-    some_left c.args.tree.now c.spans-spans.result.now c.args.assigned.now (work_now c) (key_now c) (service c) (are c).earlier (are c).once
-    (few c) (small c) (starts_now c) (order_now c) c.loop-m.links.items c.loop-m.left (turns_in c.loop-m.turns) (turns_in c.take.new.self) c.loop-m.table (taken c)
+    some_left c.args.tree.now c.spans-spans.result.now c.args.assigned.now (work_now c) (key_now c) (service c) (are c).earlier
+    (few c) (small c) (starts_now c) (order_now c) c.loop-m.links.items c.loop-m.left (turns_in c.loop-m.turns) (turns_in c.take.new.self) c.loop-m.waits c.loop-m.table (taken c)
     c.loop-m.invariant.going c.in-Some.ensures.taken
 
 among : (c : In-Some) → IsAmongFirst (length c.args.assigned.now) c.in-Some.m
@@ -123,24 +125,20 @@ starts_at : (c : In-Some) (s issue : ℕ) (latest : Option Latest) → issue ≡
     (λ l. s ≡ max (issue_of (work_now c) (start_of (starts_now c)) c.in-Some.m) l.finish)
 starts_at c s issue latest is at = subst (λ (i : ℕ). MatchOption latest (s ≡ i) (λ l. s ≡ max i l.finish)) is at
 
--- the message that follows it
-follower : (c : In-Some) (j : ℕ) → j ≡ get_or c.in_ok-followers.followers.items (c.in-Some.m - 1) j
-    → IsFollower (work_now c) (length c.loop-m.plan.timings) c.in-Some.m j
-follower c j is =
-    let known = number c in
-    let within : c.in-Some.m - 1 < length c.in_ok-followers.followers.items
-    = omega (arith, known.from, known.to, c.in_ok-followers.ensures.count, ap length (c.timings.ensures ∙ timings_first c)) in
-    subst (IsFollower (work_now c) (length c.loop-m.plan.timings) c.in-Some.m) (sym (is ∙ get_or_default c.in_ok-followers.followers.items (c.in-Some.m - 1) j 0 within))
-    (subst (λ (ts : List Timing). AreFollowers (work_of ts) (length ts) c.in_ok-followers.followers.items) (c.timings.ensures ∙ timings_first c)
-    c.in_ok-followers.ensures.followers c.in-Some.m known)
+awaiting_now : (c : In-Some) → AreAwaiting (work_now c) (order_now c) c.loop-m.waits
+awaiting_now c = c.loop-m.invariant.going.awaiting
 
-follower_number : (c : In-Some) (j : ℕ) → (work_now c).follows j ≡ Some c.in-Some.m → IsNumber (work_now c) j
-follower_number c j follow =
-    let later = (are c).earlier c.in-Some.m j follow in
-    record { from = omega (arith, later.from, later.earlier); to = later.to }
+untaken : (c : In-Some) → Contains (order_now c) c.in-Some.m → ⊥
+untaken c =
+    untaken_yet c.args.tree.now c.spans-spans.result.now c.args.assigned.now (work_now c) (key_now c) (service c) (are c).earlier
+    (few c) (small c) (starts_now c) (order_now c) c.loop-m.links.items c.loop-m.left (turns_in c.loop-m.turns) (turns_in c.take.new.self) c.loop-m.waits c.loop-m.table (taken c)
+    c.loop-m.invariant.going c.in-Some.ensures.taken
 
-clients : (c : In-Some) (j : ℕ) → (work_now c).follows j ≡ Some c.in-Some.m → has_clients c.loop-m.plan.version ≡ true
-clients c j follow = has_followed c.loop-m.plan.version c.loop-m.plan.timings (are c) c.in-Some.m j follow
+-- where a message waits for it, messages are of clients
+clients : (c : In-Some) (d : ℕ) → Contains (waiting_for c.loop-m.waits c.in-Some.m) d → has_clients c.loop-m.plan.version ≡ true
+clients c d waits =
+    has_followed c.loop-m.plan.version c.loop-m.plan.timings (are c) c.in-Some.m d
+    (waiting_awaits (work_now c) (are c).earlier (order_now c) c.loop-m.waits (awaiting_now c) c.in-Some.m d (number c) (untaken c) waits)
 
 pub loop-m-init : goal.loop-m-init
 loop-m-init c =
@@ -148,9 +146,9 @@ loop-m-init c =
     record {
       order = [];
       going = going_first c.args.tree.now c.spans-spans.result.now c.args.assigned.now (work_in plan) (key_of plan.version (work_in plan)) plan.starts
-          c.in_ok-links.links.items c.len-left.result (turns_in c.in_ok-turns.turns) c.in_ok-table.table c.len-left.ensures.table.lengths
+          c.in_ok-links.links.items c.len-left.result (turns_in c.in_ok-turns.turns) c.in_ok-waits.waits c.in_ok-table.table c.len-left.ensures.table.lengths
           (omega (arith, c.in_ok-links.ensures.len, c.in_ok-links.links.ok.0, c.len-2.ensures.count)) c.len-left.ensures.count
-          c.in_ok-turns.ensures.first (c.in_ok-table.ensures.table c.spans-spans.result.now c.args.assigned.now _);
+          c.in_ok-turns.ensures.first (subst (λ (ts : List Timing). AreAwaiting (work_of ts) [] c.in_ok-waits.waits) c.timings.ensures c.in_ok-waits.ensures) (c.in_ok-table.ensures.table c.spans-spans.result.now c.args.assigned.now _);
       version = c.in_ok-plan.ensures.version;
       timings = c.in_ok-plan.ensures.timings;
       spans = c.in_ok-table.ensures.count ∙ c.len.ensures.count;
@@ -188,8 +186,8 @@ set_start-requires c =
     let f = (goal.at.set_start-requires c).In-Some in
     record {
       number = number f;
-      printable = start_printable c.args.tree.now c.spans-spans.result.now c.args.assigned.now (work_now f) (key_now f) (service f) (are f).earlier (are f).once
-          (few f) (small f) (starts_now f) (order_now f) c.loop-m.links.items c.loop-m.left (turns_in c.loop-m.turns) (turns_in c.take.new.self) c.loop-m.table (taken f)
+      printable = start_printable c.args.tree.now c.spans-spans.result.now c.args.assigned.now (work_now f) (key_now f) (service f) (are f).earlier
+          (few f) (small f) (starts_now f) (order_now f) c.loop-m.links.items c.loop-m.left (turns_in c.loop-m.turns) (turns_in c.take.new.self) c.loop-m.waits c.loop-m.table (taken f)
           c.loop-m.invariant.going c.in-Some.ensures.taken c.start_at-start.result c.latest-latest.result
           (waited_for f c.of.result.0 c.latest-latest.result c.of.ensures c.latest-latest.ensures)
           (starts_at f c.start_at-start.result c.issue.result c.latest-latest.result c.issue.ensures.issue c.start_at-start.ensures);
@@ -212,58 +210,14 @@ note-requires-clause-few c =
 pub overflow_sub-m : goal.overflow_sub-m
 overflow_sub-m c = (number (goal.at.overflow_sub-m c).In-Some).from
 
-pub overflow_sub-m-in-Some : goal.overflow_sub-m-in-Some
-overflow_sub-m-in-Some c = (number (goal.at.overflow_sub-m-in-Some c).In-Some).from
-
-pub index-follower-requires : goal.index-follower-requires
-index-follower-requires c =
-    let f = (goal.at.index-follower-requires c).In-Some in
-    let known = number f in
-    omega (arith, known.from, known.to, c.in_ok-followers.ensures.count, c.in_ok-followers.followers.ok.0, ap length (c.timings.ensures ∙ timings_first f))
-
-pub issue-requires-then-follower-ne0 : goal.issue-requires-then-follower-ne0
-issue-requires-then-follower-ne0 c =
-    let f = (goal.at.issue-requires-then-follower-ne0 c).In-Some in
-    let j = c.index-follower.result.now in
-    rw c.set_start.ensures (record { number = follower_number f j ((follower f j c.index-follower.ensures).follows c.if-follower-ne0.true) })
-
-pub put-requires : goal.put-requires
-put-requires c =
-    let f = (goal.at.put-requires c).In-Some in
-    let j = c.index-follower.result.now in
-    record { by_issue = c.in-Some.ensures.kept ∙ c.loop-m.invariant.by ∙ clients f j ((follower f j c.index-follower.ensures).follows c.if-follower-ne0.true) }
-
-pub loop-m-smaller-in-Continue-branch-6 : goal.loop-m-smaller-in-Continue-branch-6
-loop-m-smaller-in-Continue-branch-6 c = omega (arith, left (goal.at.loop-m-smaller-in-Continue-branch-6 c).In-Some)
-
-pub loop-m-preserved-in-Continue-branch-6 : goal.loop-m-preserved-in-Continue-branch-6
-loop-m-preserved-in-Continue-branch-6 c =
-    let f = (goal.at.loop-m-preserved-in-Continue-branch-6 c).In-Some in
-    let spans = c.spans-spans.result.now in
-    let j = c.index-follower.result.now in
-    let s = c.start_at-start.result in
-    let follow = (follower f j c.index-follower.ensures).follows c.if-follower-ne0.true in
-    let placed = with_start c.loop-m.plan c.in-Some.m s in
-    let finish_is : c.finish-finish.result ≡ finish_of (work_in placed) (starts_in placed) c.in-Some.m
-    = c.finish-finish.ensures.finish ∙ ap (λ (p : Timetable). finish_of (work_in p) (starts_in p) c.in-Some.m) c.set_start.ensures in
-    let issue_is : c.issue-then-follower-ne0.result ≡ issue_of (work_in placed) (starts_in placed) j
-    = c.issue-then-follower-ne0.ensures.issue ∙ ap (λ (p : Timetable). issue_of (work_in p) (starts_in p) j) c.set_start.ensures in
-    rw (c.set_start.ensures, c.wait.ensures) (record {
-      order = order_now f ++ c.in-Some.m ∷ [];
-      going = going_next c.args.tree.now spans c.args.assigned.now (work_now f) (key_now f) (service f) (are f).earlier (are f).once
-          (few f) (small f) (starts_now f) (order_now f) c.loop-m.links.items c.loop-m.left (turns_in c.loop-m.turns) (turns_in c.take.new.self) c.loop-m.table (taken f)
-          c.loop-m.invariant.going c.in-Some.ensures.taken s c.latest-latest.result
-          (waited_for f c.of.result.0 c.latest-latest.result c.of.ensures c.latest-latest.ensures)
-          (starts_at f s c.issue.result c.latest-latest.result c.issue.ensures.issue c.start_at-start.ensures)
-          c.finish-finish.result finish_is c.note.new.self
-          (λ finish_at noted at. c.note.ensures.table spans c.args.assigned.now finish_at (order_now f) noted (ap (span_at spans) (sym c.of.ensures)) at)
-          j c.issue-then-follower-ne0.result (turns_in c.put.new.self) (follower_number f j follow) follow
-          (issue_is ∙ sym (key_is_issue c.loop-m.plan.version (work_now f) (starts_in placed) j (clients f j follow)))
-          c.in_ok-put.ensures.put;
-      version = c.loop-m.invariant.version;
-      timings = c.loop-m.invariant.timings;
-      spans = c.note.ensures.count ∙ c.loop-m.invariant.spans;
-      by = c.in_ok-put.ensures.kept ∙ c.in-Some.ensures.kept ∙ c.loop-m.invariant.by;
+pub admit-requires : goal.admit-requires
+admit-requires c =
+    let f = (goal.at.admit-requires c).In-Some in
+    rw c.set_start.ensures (record {
+      number = number f;
+      many = waits_count (work_now f) (are f).earlier (order_now f) c.loop-m.waits (awaiting_now f);
+      numbers = λ d waits. waiting_number (work_now f) (are f).earlier (order_now f) c.loop-m.waits (awaiting_now f) f.in-Some.m d waits;
+      by_issue = λ d waits. c.in-Some.ensures.kept ∙ c.loop-m.invariant.by ∙ clients f d waits;
     })
 
 pub loop-m-smaller : goal.loop-m-smaller
@@ -274,31 +228,37 @@ loop-m-preserved c =
     let f = (goal.at.loop-m-preserved c).In-Some in
     let spans = c.spans-spans.result.now in
     let s = c.start_at-start.result in
-    let is = follower f c.index-follower.result.now c.index-follower.ensures in
     let placed = with_start c.loop-m.plan c.in-Some.m s in
     let finish_is : c.finish-finish.result ≡ finish_of (work_in placed) (starts_in placed) c.in-Some.m
     = c.finish-finish.ensures.finish ∙ ap (λ (p : Timetable). finish_of (work_in p) (starts_in p) c.in-Some.m) c.set_start.ensures in
     rw (c.set_start.ensures, c.wait.ensures) (record {
       order = order_now f ++ c.in-Some.m ∷ [];
-      going = going_on c.args.tree.now spans c.args.assigned.now (work_now f) (key_now f) (service f) (are f).earlier (are f).once
-          (few f) (small f) (starts_now f) (order_now f) c.loop-m.links.items c.loop-m.left (turns_in c.loop-m.turns) (turns_in c.take.new.self) c.loop-m.table (taken f)
+      going = going_on c.args.tree.now spans c.args.assigned.now (work_now f) (key_now f) (service f) (are f).earlier
+          (few f) (small f) (starts_now f) (order_now f) c.loop-m.links.items c.loop-m.left (turns_in c.loop-m.turns) (turns_in c.take.new.self) c.loop-m.waits c.loop-m.table (taken f)
           c.loop-m.invariant.going c.in-Some.ensures.taken s c.latest-latest.result
           (waited_for f c.of.result.0 c.latest-latest.result c.of.ensures c.latest-latest.ensures)
           (starts_at f s c.issue.result c.latest-latest.result c.issue.ensures.issue c.start_at-start.ensures)
           c.finish-finish.result finish_is c.note.new.self
           (λ finish_at noted at. c.note.ensures.table spans c.args.assigned.now finish_at (order_now f) noted (ap (span_at spans) (sym c.of.ensures)) at)
-          (λ n known follow. omega (arith, is.all n known follow, known.from, c.if-follower-ne0.false));
+          (turns_in c.admit.new.self) c.admit.new.waits c.in_ok-admit.ensures.waits c.in_ok-admit.ensures.free
+          (λ y there. elim (c.in_ok-admit.ensures.issued y there) [
+            | inl old ↦ inl old
+            | inr new ↦ inr (
+              new.0,
+              new.1 ∙ ap (λ (p : Timetable). issue_of (work_in p) (starts_in p) y.1) c.set_start.ensures
+                  ∙ sym (key_is_issue c.loop-m.plan.version (work_now f) (starts_in placed) y.1 (clients f y.1 new.0)),
+            )
+          ]);
       version = c.loop-m.invariant.version;
       timings = c.loop-m.invariant.timings;
       spans = c.note.ensures.count ∙ c.loop-m.invariant.spans;
-      by = c.in-Some.ensures.kept ∙ c.loop-m.invariant.by;
+      by = c.in_ok-admit.ensures.kept ∙ c.in-Some.ensures.kept ∙ c.loop-m.invariant.by;
     })
 
-pub followers-requires : goal.followers-requires
-followers-requires c = rw c.timings.ensures (record {
+pub awaiting-requires : goal.awaiting-requires
+awaiting-requires c = rw c.timings.ensures (record {
   few = c.len-left.ensures.table.few;
   earlier = c.len-left.ensures.table.timings.earlier;
-  once = c.len-left.ensures.table.timings.once;
 })
 
 -- the plan that is least in the order by the key is least in the order in which it serves messages

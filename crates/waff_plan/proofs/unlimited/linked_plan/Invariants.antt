@@ -9,7 +9,7 @@ use Rattle.waff_plan.proofs.unlimited.linked_plan.Given as goal
 abbrev pub invariant-loop-m : goal.invariant-loop-m
 invariant-loop-m l = record {
   order : List ℕ;
-  going : IsGoing l.tree l.spans l.assigned (work_in l.plan) (key_of l.plan.version (work_in l.plan)) l.plan.starts order l.links.items l.left (turns_in l.turns) l.table;
+  going : IsGoing l.tree l.spans l.assigned (work_in l.plan) (key_of l.plan.version (work_in l.plan)) l.plan.starts order l.links.items l.left (turns_in l.turns) l.waits l.table;
   version : l.plan.version ≡ l.trace.version;
   timings : l.plan.timings ≡ timings_of l.trace.messages;
   spans : length l.table.own ≡ length l.tree;

@@ -3,7 +3,7 @@ use Rattle.std.specs.Vec.{vec_capacity}
 use Rattle.std.specs.declared.cmp.Reverse.{Reverse}
 use Rattle.waff_plan.specs.Timing.{work_of}
 use Rattle.waff_plan.proofs.IssueFirst.{AreFirstUpTo}
-use Rattle.waff_plan.proofs.followers.first_issues.Given as goal
+use Rattle.waff_plan.proofs.awaiting.first_issues.Given as goal
 
 abbrev pub invariant-loop-m : goal.invariant-loop-m
 invariant-loop-m l = record {

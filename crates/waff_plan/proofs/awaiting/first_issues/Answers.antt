@@ -5,10 +5,10 @@ use Rattle.std.proofs.lemmas.List.{length-append, map-append}
 use Rattle.std.proofs.lemmas.List.Sorted.{IsPermutation-sym, IsPermutation-to_front}
 use Rattle.waff_plan.specs.Pending.{Issue}
 use Rattle.waff_plan.specs.Timing.{timing_of, work_of}
-use Rattle.waff_plan.proofs.FollowLemmas.{followed_none, followed_some}
+use Rattle.waff_plan.proofs.FollowLemmas.{awaits_it, awaits_none}
 use Rattle.waff_plan.proofs.IssueFirst.{first_all, first_moved, first_none, first_put, first_same}
-use Rattle.waff_plan.proofs.followers.first_issues.Goals as goal
-use Rattle.waff_plan.proofs.followers.first_issues.Goals.{then-timing-eq0, else-timing-eq0}
+use Rattle.waff_plan.proofs.awaiting.first_issues.Goals as goal
+use Rattle.waff_plan.proofs.awaiting.first_issues.Goals.{then-timing-eq0, else-timing-eq0}
 
 length_pushed : {X : Type 0} {n : ℕ} (xs : List X) (x : X) → length xs + 1 ≤ n → length (xs ++ x ∷ []) ≤ n
 length_pushed xs x few = omega (arith, length-append xs (x ∷ []), few)
@@ -26,6 +26,7 @@ loop-m-preserved c =
     let work = work_of c.args.timings.now in
     let m = c.loop-m.m in
     let f = (timing_of c.args.timings.now m).follows in
+    let think = (timing_of c.args.timings.now m).think in
     let pair = λ (r : Reverse (ℕ × ℕ)). r.0 in
     let old = c.loop-m.issues.items in
     let back : m + 1 - 1 ≡ m = omega arith in
@@ -37,7 +38,7 @@ loop-m-preserved c =
             few = length_pushed old _ (omega (arith, h.few, c.loop-m.auto.m));
             room = omega (arith, h.room, w.push_reserved.ensures.capacity);
             first = first_put work m c.loop-m.auto.m (map pair old) h.first (map pair (old ++ one ∷ [])) w.from.result w.from.ensures
-                (followed_none f w.if-timing-eq0.true)
+                (awaits_none f think w.if-timing-eq0.true)
                 (subst (λ (xs : List Issue). IsPermutation ((w.from.result, m) ∷ map pair old) xs) (sym (map-append pair old (one ∷ [])))
                 (IsPermutation-sym (map pair old ++ (w.from.result, m) ∷ []) ((w.from.result, m) ∷ map pair old) (IsPermutation-to_front (map pair old) (w.from.result, m))));
           })
@@ -45,7 +46,7 @@ loop-m-preserved c =
           rw w.issues-is (record {
             few = omega (arith, h.few);
             room = h.room;
-            first = first_same work m c.loop-m.auto.m (map pair old) h.first f (followed_some f w.if-timing-eq0.false);
+            first = first_same work m c.loop-m.auto.m (map pair old) h.first f (awaits_it f think w.if-timing-eq0.false);
           })
     ])
 

@@ -1,36 +1,35 @@
-//! Which message follows each by its client, and which follow none.
+//! Who awaits whom, and which messages await none.
 
-ghost use Rattle.std.specs.Prelude.{◌≡◌, ◌≤◌, length, IfOk};
+ghost use Rattle.std.specs.Prelude.{◌≤◌, length, IfOk, []};
 ghost use Rattle.waff_model.specs.declared.limits.TheConstants.{MAX_MESSAGES};
-ghost use Rattle.waff_plan.specs.Obeys.{FollowsEarlier, FollowsOnce};
-ghost use Rattle.waff_plan.specs.Pending.{AreFirst, AreFollowers};
+ghost use Rattle.waff_plan.specs.Awaiting.{AreAwaiting};
+ghost use Rattle.waff_plan.specs.Obeys.{AwaitsEarlier};
+ghost use Rattle.waff_plan.specs.Pending.{AreFirst};
 ghost use Rattle.waff_plan.specs.Timing.{work_of};
 ghost use Rattle.waff_plan.specs.Work.{issue_of};
 
 use crate::{Due, Timing};
 use std::alloc::{AllocError, Global};
 use std::cmp::Reverse;
+use waff_waits::Waits;
 
-/// For each message the number of the one that follows it, 0 where none does.
-pub fn followers(alloc: Global, timings: &[Timing]) -> Result<Vec<u32>, AllocError>
+/// Each message waits for those that it awaits.
+pub fn awaiting(alloc: Global, timings: &[Timing]) -> Result<Waits, AllocError>
     requires few { length timings.now ≤ MAX_MESSAGES }
-    requires earlier { FollowsEarlier (work_of timings.now) }
-    requires once { FollowsOnce (work_of timings.now) }
-    ensures count { IfOk result (λ followers. length followers.items ≡ length timings.now) }
-    ensures followers { IfOk result (λ followers.
-        AreFollowers (work_of timings.now) (length timings.now) followers.items) }
+    requires earlier { AwaitsEarlier (work_of timings.now) }
+    ensures { IfOk result (AreAwaiting (work_of timings.now) []) }
 {
-    let mut followers = vec![in alloc; 0; timings.len()]?;
+    let mut waits = Waits::none(alloc, timings.len())?;
     for m in 1..timings.len() as u32 + 1 {
         let message = timings[m as usize - 1].follows;
         if message != 0 {
-            followers[message as usize - 1] = m;
+            waits.enter(m, &[message])?;
         }
     }
-    Ok(followers)
+    Ok(waits)
 }
 
-/// The messages that follow none, which are issued at their releases.
+/// The messages that await none, which are issued at their floors.
 pub fn first_issues(alloc: Global, timings: &[Timing]) -> Result<Due, AllocError>
     requires few { length timings.now ≤ MAX_MESSAGES }
     ensures { IfOk result (AreFirst (work_of timings.now) (issue_of (work_of timings.now))) }
