@@ -1,19 +1,19 @@
 -- The ticks at which messages finish or are issued are so many that the planner ends, and so close that no tick is too late.
-use Rattle.std.proofs.Common.{◌≡◌, ℕ, ◌+◌, ◌*◌, ◌<◌, ◌≤◌, ◌⊎◌, inl, inr, List, map, nat_lt, count_by, length, All, Contains, Option, Some, None, option_map, arith, refl, ap}
+use Rattle.std.proofs.Common.{◌≡◌, ℕ, ◌+◌, ◌*◌, ◌<◌, ◌≤◌, ◌⊎◌, inl, inr, List, [], ◌∷◌, map, nat_lt, count_by, length, All, Contains, arith, refl, ap}
 use Rattle.std.proofs.lemmas.Bool.{cases_lt, ltb-true, lt-ltb, le-ltb}
 use Rattle.std.proofs.lemmas.List.Elements.{All-contains, All-weaker}
 use Rattle.std.proofs.lemmas.List.FromFn.{length-range_with_len}
 use Rattle.std.proofs.lemmas.List.Sums.{count_by-le-length}
 use Rattle.waff_model.specs.declared.limits.TheConstants.{MAX_COST, MAX_MESSAGES, MAX_RELEASE, MAX_THINK, MAX_TICK}
 use Rattle.waff_plan.specs.Timing.{start_of}
-use Rattle.waff_plan.specs.Work.{Work, IsNumber, numbers, finish_of, issue_after, issue_of}
+use Rattle.waff_plan.specs.Work.{Await, Work, IsAwaited, IsNumber, numbers, finish_of, gap_after, holds_until, issue_after, issue_of}
+use Rattle.waff_plan.proofs.Holding.{awaited-le-issue, gap_same, same_issue}
 use Rattle.waff_list.specs.Progress.{IsSmall}
 use Rattle.waff_list.specs.Issuing.{AreIssues, IsLastEvent, IsNextEvent}
 use Rattle.waff_list.specs.Waiting.{Runs, AreFinishes}
 use Rattle.waff_plan.specs.declared.due.TheConstants.{NEVER}
 use Rattle.waff_waits.proofs.Each.{contains_map, contains_mapped, each_there}
-use Rattle.waff_list.proofs.IssueLemmas.{followed_by, issue_same}
-use Rattle.waff_list.proofs.Uniqueness.{FollowsMessages, counts_le, counts_lt}
+use Rattle.waff_list.proofs.Uniqueness.{AwaitsMessages, counts_le, counts_lt}
 
 -- how many messages finish after now, and how many are issued after now
 abbrev ends_after : Work → (ℕ → ℕ) → ℕ → ℕ
@@ -44,17 +44,26 @@ in_time_none work start now early = omega (arith, few_by work (finish_of work st
 pub in_time_early : (work : Work) (start : ℕ → ℕ) (now : ℕ) → work.count ≤ MAX_MESSAGES → IsInTime work start now → now ≤ MAX_TICK
 in_time_early work start now few h = omega (arith, few, h)
 
-cases_by : (finish : ℕ → ℕ) (release think : ℕ) (follows : Option ℕ)
-    → (issue_after release think (option_map finish follows) ≡ release) ⊎ ((f : ℕ) × (follows ≡ Some f) × (issue_after release think (option_map finish follows) ≡ finish f + think))
-cases_by finish release think None = inl refl
-cases_by finish release think (Some f) = elim (cases_lt release (finish f + think)) [ inl less ↦ inr (f, refl, omega arith) | inr more ↦ inl (omega arith) ]
+cases_by : (finish : ℕ → ℕ) (floor : ℕ) (awaits : List Await)
+    → (issue_after finish floor awaits ≡ floor) ⊎ ((i : ℕ) × IsAwaited awaits i × (issue_after finish floor awaits ≤ finish i + gap_after i awaits))
+cases_by finish floor [] = inl refl
+cases_by finish floor (a ∷ rest) = elim (cases_lt (issue_after finish floor rest) (finish a.message + a.gap)) [
+  | inl less ↦ inr (a.message, inl refl, omega (arith, gap_same a a.message refl))
+  | inr more ↦ elim (cases_by finish floor rest) [
+    | inl is ↦ inl (omega (arith, is, more))
+    | inr (i, is, within) ↦ inr (i, inr is, omega (arith, within, more))
+  ]
+]
 
--- a message is issued at its release, or its think time after what it follows
+-- a message is issued at its release, or the gap after one that it awaits
 pub issue_cases : (work : Work) (start : ℕ → ℕ) (m : ℕ) → (issue_of work start m ≡ work.floor m)
-    ⊎ ((f : ℕ) × (work.follows m ≡ Some f) × (issue_of work start m ≡ finish_of work start f + work.think m))
-issue_cases work start m = cases_by (finish_of work start) (work.floor m) (work.think m) (work.follows m)
+    ⊎ ((i : ℕ) × IsAwaited (work.awaits m) i × (issue_of work start m ≡ holds_until work start m i))
+issue_cases work start m = elim (cases_by (finish_of work start) (work.floor m) (work.awaits m)) [
+  | inl release ↦ inl release
+  | inr (i, is, within) ↦ inr (i, is, omega (arith, within, awaited-le-issue work start i m is))
+]
 
-module _ (work : Work) (followed : FollowsMessages work) (small : IsSmall work) (thinks : (m : ℕ) → IsNumber work m → work.think m ≤ MAX_THINK)
+module _ (work : Work) (awaited : AwaitsMessages work) (small : IsSmall work)
     (old starts : List ℕ) (now next : ℕ)
     (placed : (m : ℕ) → IsNumber work m → (start_of old m ≤ now) ⊎ (start_of old m ≡ NEVER))
     (kept : (m : ℕ) → IsNumber work m → start_of old m ≤ now → start_of starts m ≡ start_of old m)
@@ -71,12 +80,12 @@ module _ (work : Work) (followed : FollowsMessages work) (small : IsSmall work) 
   issue_back m later = elim (cases_lt now (issue_of work (start_of old) m)) [
     | inl is ↦ is
     | inr early ↦
-        let same = issue_same work (start_of starts) (start_of old) m
-        (λ f is. kept f (followed f m is) (omega (arith, followed_by work (start_of old) m now f early is))) in
+        let same = same_issue work (start_of starts) (start_of old) m
+        (λ i is. kept i (awaited i m is) (omega (arith, awaited-le-issue work (start_of old) i m is, early))) in
         omega (arith, same, later, early)
   ]
 
-  -- the next tick is that of a message that starts by now and finishes, of a release, or a think time away
+  -- the next tick is that of a message that starts by now and finishes, of a release, or a gap away
   abbrev Ends : Type 0
   Ends = (m : ℕ) × IsNumber work m × (start_of starts m ≤ now) × (finish_of work (start_of starts) m ≡ next)
 
@@ -88,15 +97,15 @@ module _ (work : Work) (followed : FollowsMessages work) (small : IsSmall work) 
     | inl there ↦ let runs = All-contains (Runs work (start_of starts) now) finishes (next, there.0) running.only there.1 in inl (there.0, runs.0, runs.1, runs.3)
     | inr (m, number, is) ↦ elim (issue_cases work (start_of starts) m) [
       | inl release ↦ inr (m, number, is, inl (omega (arith, is, release, small.floor m number)))
-      | inr (f, follows, sum) ↦
-          let f_number = followed f m follows in
-          elim (cases_lt now (finish_of work (start_of starts) f)) [
-            | inr done ↦ inr (m, number, is, inr (omega (arith, is, sum, done, thinks m number)))
-            | inl late ↦ elim (after f f_number) [
+      | inr (i, awaits, sum) ↦
+          let i_number = awaited i m awaits in
+          elim (cases_lt now (finish_of work (start_of starts) i)) [
+            | inr done ↦ inr (m, number, is, inr (omega (arith, is, sum, done, small.gap i m number)))
+            | inl late ↦ elim (after i i_number) [
               | inr never ↦ absurd (omega (arith, is, sum, never, tick.tick))
               | inl begun ↦
-                  let first = All-contains (λ (r : ℕ × ℕ). next ≤ r.0) finishes (finish_of work (start_of starts) f, f) tick.first (running.each f f_number begun late) in
-                  inl (f, f_number, begun, omega (arith, is, sum, first))
+                  let first = All-contains (λ (r : ℕ × ℕ). next ≤ r.0) finishes (finish_of work (start_of starts) i, i) tick.first (running.each i i_number begun late) in
+                  inl (i, i_number, begun, omega (arith, is, sum, first))
             ]
           ]
     ]

@@ -1,29 +1,28 @@
 -- List plans in the order of issue: there is one, and it is within the bound.
-use Rattle.std.proofs.Common.{◌≡◌, ◌≢◌, ℕ, zero, suc, ◌+◌, ◌<◌, ◌≤◌, ◌⊎◌, ◌↔◌, inl, inr, List, Option, Some, None, arith, refl, sym, ap, ◌∙◌}
-use Rattle.std.proofs.lemmas.Bool.{cases_lt, cases_eq, cases_order}
-use Rattle.std.proofs.lemmas.Option.{none-some, same_Some}
+use Rattle.std.proofs.Common.{◌≡◌, ◌≢◌, ℕ, zero, suc, ◌+◌, ◌<◌, ◌≤◌, ◌⊎◌, ◌↔◌, inl, inr, List, arith, refl, sym, ap, ◌∙◌}
+use Rattle.std.proofs.lemmas.Bool.{cases_lt, cases_order}
 use Rattle.waff_model.specs.Tree.{Node}
 use Rattle.waff_assign.specs.Order.{Relation, IsOrdered}
 use Rattle.waff_plan.specs.Issues.{IsIssuedBefore, IsServedBefore}
-use Rattle.waff_plan.specs.Obeys.{FollowsEarlier}
+use Rattle.waff_plan.specs.Obeys.{AwaitsEarlier}
 use Rattle.waff_plan.specs.Unique.{AreSame}
 use Rattle.waff_plan.specs.Work.{Work, IsNumber, issue_of}
 use Rattle.waff_plan.proofs.Chains.{printed_is_chain}
 use Rattle.waff_plan.proofs.IssueOrder.{IsServedBefore_forward, one_is_issued_first, issue_is_arrival}
 use Rattle.waff_plan.proofs.NoClients.{issue_is_floor}
 use Rattle.waff_plan.proofs.Ratios.{bound_is_within_twice}
-use Rattle.waff_list.specs.ByIssue.{ByIssueIsByArrival, IsTakenByIssue, IsListPlanByIssue, AreClientTails, IsFollowedByNone, ClientTailsAreOne, ListPlanByIssueIsOne, PlanByIssueIsOne, ListPlansByIssueAreBounded}
+use Rattle.waff_list.specs.ByIssue.{ByIssueIsByArrival, IsTakenByIssue, IsListPlanByIssue, AreClientTails, ClientTailsAreOne, ListPlanByIssueIsOne, PlanByIssueIsOne, ListPlansByIssueAreBounded}
 use Rattle.waff_list.specs.ListRule.{IsListPlan, IsReady, IsTakenFirst, arrival}
 use Rattle.waff_list.specs.Unique.{EachRuns}
 use Rattle.waff_list.specs.declared.rule.Rule.TheVariants.{Arrival, Longest}
 use Rattle.waff_list.proofs.Graham.{list_plans_are_within_bound}
 use Rattle.waff_list.proofs.RuleLemmas.{busy_of}
-use Rattle.waff_list.proofs.Uniqueness.{FollowsMessages, issue_alike, plans_are_one, turned}
+use Rattle.waff_list.proofs.Uniqueness.{AwaitsMessages, issue_alike, plans_are_one, turned}
 
--- what is followed is a message
-pub follows_messages : (work : Work) → FollowsEarlier work → FollowsMessages work
-follows_messages work follows f m is =
-    let earlier = follows f m is in
+-- what is awaited is a message
+pub awaits_messages : (work : Work) → AwaitsEarlier work → AwaitsMessages work
+awaits_messages work follows i m is =
+    let earlier = follows i m is in
     record { from = earlier.from; to = omega (arith, earlier.earlier, earlier.to) }
 
 -- of two messages one is taken first
@@ -55,12 +54,12 @@ module _ (work : Work) (start other : ℕ → ℕ) (t : ℕ) (alike : (m : ℕ) 
   taken_to priority next same i j i_number j_number issued (inr (level, first)) =
       inr (sym (same i i_number) ∙ level ∙ same j j_number, issued_to i j issued first)
 
-module _ (tree : List Node) (assigned : List ℕ) (work : Work) (follows : FollowsEarlier work) where
+module _ (tree : List Node) (assigned : List ℕ) (work : Work) (follows : AwaitsEarlier work) where
   -- by priorities that are the same
   same_plans : EachRuns work → (priority next : ℕ → ℕ) → AreSame work priority next → (k : ℕ) (start other : ℕ → ℕ)
       → IsListPlanByIssue tree assigned priority work k start → IsListPlanByIssue tree assigned next work k other → AreSame work start other
   same_plans runs priority next level k start other plan other_plan =
-      let messages = follows_messages work follows in
+      let messages = awaits_messages work follows in
       plans_are_one (IsServedBefore tree assigned work start) (IsServedBefore tree assigned work other)
       (IsTakenByIssue priority work start) (IsTakenByIssue next work other) work k start other messages runs
       (λ i m pair. pair.first) (λ i m pair. pair.first)
@@ -92,57 +91,29 @@ module _ (tree : List Node) (assigned : List ℕ) (work : Work) (follows : Follo
         twice = bound_is_within_twice before work k start chain (printed_is_chain before work forward start chain printed) bound;
       }
 
--- whether a message is followed by one of the first n
-is_followed : (work : Work) (m n : ℕ) → ((next : ℕ) × (next ≤ n) × (work.follows next ≡ Some m)) ⊎ ((next : ℕ) → next ≤ n → work.follows next ≡ Some m → ⊥)
-is_followed work m n = followed_by_one n
-  where
-    here : (next : ℕ) → (work.follows next ≡ Some m) ⊎ (work.follows next ≡ Some m → ⊥)
-    here next = here_is (work.follows next) refl
-      where
-        here_is : (f : Option ℕ) → work.follows next ≡ f → (work.follows next ≡ Some m) ⊎ (work.follows next ≡ Some m → ⊥)
-        here_is None none = inr (λ is. none-some m (sym none ∙ is))
-        here_is (Some f) some = elim (cases_eq f m) [
-          | inl same ↦ inl (some ∙ ap Some same)
-          | inr other ↦ inr (λ is. other (same_Some f m (sym some ∙ is)))
-        ]
-
-    followed_by_one : (n : ℕ) → ((next : ℕ) × (next ≤ n) × (work.follows next ≡ Some m)) ⊎ ((next : ℕ) → next ≤ n → work.follows next ≡ Some m → ⊥)
-    followed_by_one zero = elim (here 0) [
-      | inl is ↦ inl (0, omega arith, is)
-      | inr none ↦ inr (λ next to is. let zero_is : next ≡ 0 = omega arith in none (ap work.follows (sym zero_is) ∙ is))
-    ]
-    followed_by_one (suc n) = elim (here (suc n)) [
-      | inl is ↦ inl (suc n, omega arith, is)
-      | inr none ↦ elim (followed_by_one n) [
-        | inl there ↦ inl (there.0, omega (arith, there.1), there.2)
-        | inr others ↦ inr (λ next to is. elim (cases_eq next (suc n)) [
-          | inl last ↦ none (ap work.follows (sym last) ∙ is)
-          | inr other ↦ others next (omega arith) is
-        ])
-      ]
-    ]
-
--- the tails of the last d messages are one
-client_tails_from : (work : Work) → FollowsEarlier work → (tail other : ℕ → ℕ) → AreClientTails work tail → AreClientTails work other
-    → (d m : ℕ) → IsNumber work m → work.count < m + d → tail m ≡ other m
-client_tails_from work follows tail other tails others zero m number last = absurd (omega (arith, last, number.to))
-client_tails_from work follows tail other tails others (suc d) m number last = elim (is_followed work m work.count) [
-  | inl (next, to, is) ↦
-      let earlier = follows m next is in
-      let next_number : IsNumber work next = record { from = omega (arith, earlier.from, earlier.earlier); to = earlier.to } in
-      let same = client_tails_from work follows tail other tails others d next next_number (omega (arith, last, earlier.earlier)) in
-      omega (arith, tails.next m next next_number is, others.next m next next_number is, same)
-  | inr none ↦
-      let alone : IsFollowedByNone work m = λ n n_number is. none n n_number.to is in
-      tails.last m number alone ∙ sym (others.last m number alone)
+-- the tails of the last d messages are no greater than others that are such
+client_tails_within : (work : Work) → AwaitsEarlier work → (tail other : ℕ → ℕ) → AreClientTails work tail → AreClientTails work other
+    → (d m : ℕ) → IsNumber work m → work.count < m + d → tail m ≤ other m
+client_tails_within work follows tail other tails others zero m number last = absurd (omega (arith, last, number.to))
+client_tails_within work follows tail other tails others (suc d) m number last = elim (tails.one m number) [
+  | inl (none, is) ↦ elim (others.one m number) [
+    | inl (_, other_is) ↦ omega (arith, is, other_is)
+    | inr (later, later_number, awaits, _) ↦ absurd (none later later_number awaits)
+  ]
+  | inr (later, later_number, awaits, is) ↦
+      let earlier = follows m later awaits in
+      let within = client_tails_within work follows tail other tails others d later later_number (omega (arith, last, earlier.earlier)) in
+      omega (arith, is, within, others.each m later later_number awaits)
 ]
 
-pub client_tails_are_one : (work : Work) → FollowsEarlier work → ClientTailsAreOne work
+pub client_tails_are_one : (work : Work) → AwaitsEarlier work → ClientTailsAreOne work
 client_tails_are_one work follows tail other tails others m number =
-    client_tails_from work follows tail other tails others (work.count + 1) m number (omega arith)
+    let within = client_tails_within work follows tail other tails others (work.count + 1) m number (omega arith) in
+    let back = client_tails_within work follows other tail others tails (work.count + 1) m number (omega arith) in
+    omega (arith, within, back)
 
 -- the plan by a rule is one
-pub plan_by_issue_is_one : (tree : List Node) (assigned : List ℕ) (work : Work) → FollowsEarlier work → EachRuns work → PlanByIssueIsOne tree assigned work
+pub plan_by_issue_is_one : (tree : List Node) (assigned : List ℕ) (work : Work) → AwaitsEarlier work → EachRuns work → PlanByIssueIsOne tree assigned work
 plan_by_issue_is_one tree assigned work follows runs Arrival k start other p q = list_plan_by_issue_is_one tree assigned work follows runs _ k start other p q
 plan_by_issue_is_one tree assigned work follows runs Longest k start other (tail, tails, p) (other_tail, other_tails, q) =
     same_plans tree assigned work follows runs tail other_tail (client_tails_are_one work follows tail other_tail tails other_tails) k start other p q

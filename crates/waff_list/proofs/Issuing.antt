@@ -146,6 +146,7 @@ module _ (task : Task) (p : Progress) (w : Waiting) (now m : ℕ) (short : now +
         known = learnt.known;
         fits = fits;
         ranked = ranked;
+        awaiting = h.awaiting;
       };
     }
 

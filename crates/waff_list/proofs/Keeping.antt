@@ -6,9 +6,10 @@ use Rattle.std.proofs.lemmas.List.Elements.{All-contains}
 use Rattle.waff_model.specs.declared.limits.TheConstants.{MAX_RELEASE, MAX_THINK, MAX_TICK}
 use Rattle.waff_assign.specs.Order.{Relation}
 use Rattle.waff_order.specs.Needs.{IsNeed}
-use Rattle.waff_plan.specs.Obeys.{FollowsEarlier}
+use Rattle.waff_plan.specs.Obeys.{AwaitsEarlier}
 use Rattle.waff_plan.specs.Timing.{start_of}
 use Rattle.waff_plan.specs.Work.{IsNumber, finish_of, issue_of}
+use Rattle.waff_plan.proofs.Holding.{issued_by}
 use Rattle.waff_list.specs.Issuing.{AreServed, IsLastEvent}
 use Rattle.waff_list.specs.ListRule.{IsReady}
 use Rattle.waff_list.specs.Orders.{AreNeedsIn, IsServiceOrder, TakesFirst}
@@ -21,8 +22,7 @@ use Rattle.waff_list.specs.Waiting.{AreFinishes}
 use Rattle.waff_plan.specs.declared.due.TheConstants.{NEVER}
 use Rattle.waff_waits.proofs.Waiting.{free_over, over_free}
 use Rattle.waff_waits.proofs.Each.{each_same, each_there}
-use Rattle.waff_list.proofs.IssueLemmas.{issue_le}
-use Rattle.waff_list.proofs.IssuePlans.{follows_messages}
+use Rattle.waff_list.proofs.IssuePlans.{awaits_messages}
 use Rattle.waff_list.proofs.Making.{settled_all, settled_plan}
 use Rattle.waff_list.proofs.Orders.{needs_tell}
 use Rattle.waff_list.proofs.Starting.{IsStartingOf}
@@ -79,14 +79,13 @@ module _ (p : Plannable) (order : IsServiceOrder p.work p.order) where
   }
 
   -- where no message finishes after now, and the issue of none that is not issued is known, all are issued and placed
-  module _ (follows : FollowsEarlier p.work) (start worker : ℕ → ℕ) (now : ℕ) (some : 1 ≤ p.workers) (early : now + MAX_RELEASE + MAX_THINK < NEVER) (small : IsSmall p.work)
-      (thinks : (m : ℕ) → IsNumber p.work m → p.work.think m ≤ MAX_THINK)
+  module _ (follows : AwaitsEarlier p.work) (start worker : ℕ → ℕ) (now : ℕ) (some : 1 ≤ p.workers) (early : now + MAX_RELEASE + MAX_THINK < NEVER) (small : IsSmall p.work)
       (finishes : (m : ℕ) → IsNumber p.work m → start m ≤ now → finish_of p.work start m ≤ now)
       (issues : (m : ℕ) → IsNumber p.work m → (issue_of p.work start m ≤ now) ⊎ (NEVER ≤ issue_of p.work start m))
       (h : IsSettled (p.order.before start) (TakesFirst p.priority (p.order.key start)) p.work p.workers start worker now (p.work.count + 1) (now + 1)) where
     placed_if_issued : (m : ℕ) → IsNumber p.work m → issue_of p.work start m ≤ now → start m ≤ now
     placed_if_issued =
-        settled_all (p.order.before start) (TakesFirst p.priority (p.order.key start)) p.work p.workers (order.numbers start) (follows_messages p.work follows)
+        settled_all (p.order.before start) (TakesFirst p.priority (p.order.key start)) p.work p.workers (order.numbers start) (awaits_messages p.work follows)
         start worker now some (omega (arith, early)) finishes
         (record { place = order.place start; to = order.to start; second = λ i j pair. (order.numbers start i j pair).1; earlier = order.earlier start })
         (λ i m pair issued. elim (issues i (order.numbers start i m pair).0) [
@@ -99,23 +98,22 @@ module _ (p : Plannable) (order : IsServiceOrder p.work p.order) where
     all_issued (suc bound) m less number = elim (issues m number) [
       | inl issued ↦ issued
       | inr never ↦
-          let soon = issue_le p.work start m (now + MAX_RELEASE + MAX_THINK) (omega (arith, small.floor m number))
-          (λ f is.
-          let earlier = follows f m is in
-          let f_number : IsNumber p.work f = record { from = earlier.from; to = omega (arith, earlier.earlier, earlier.to) } in
-          let issued = all_issued bound f (omega (arith, less, earlier.earlier)) f_number in
-          omega (arith, finishes f f_number (placed_if_issued f f_number issued), thinks m number)) in
+          let soon = issued_by (finish_of p.work start) (p.work.floor m) (now + MAX_RELEASE + MAX_THINK) (p.work.awaits m) (omega (arith, small.floor m number))
+          (λ i is.
+          let earlier = follows i m is in
+          let i_number : IsNumber p.work i = record { from = earlier.from; to = omega (arith, earlier.earlier, earlier.to) } in
+          let issued = all_issued bound i (omega (arith, less, earlier.earlier)) i_number in
+          omega (arith, finishes i i_number (placed_if_issued i i_number issued), small.gap i m number)) in
           absurd (omega (arith, never, soon, early))
     ]
 
     pub all_placed : (m : ℕ) → IsNumber p.work m → start m ≤ now
     all_placed m number = placed_if_issued m number (all_issued (suc m) m (omega arith) number)
 
-  pub made_in_order : FollowsEarlier p.work → (placed : Placed) (now : ℕ) → 1 ≤ p.workers → now ≤ MAX_TICK → IsSmall p.work
-      → ((m : ℕ) → IsNumber p.work m → p.work.think m ≤ MAX_THINK) → IsPlannedTo p placed now (p.work.count + 1) (now + 1)
+  pub made_in_order : AwaitsEarlier p.work → (placed : Placed) (now : ℕ) → 1 ≤ p.workers → now ≤ MAX_TICK → IsSmall p.work → IsPlannedTo p placed now (p.work.count + 1) (now + 1)
       → (finishes : List (ℕ × ℕ)) → AreFinishes p.work (start_of placed.starts) now finishes → IsLastEvent p.work (start_of placed.starts) finishes now
       → IsMade p placed
-  made_in_order follows placed now some early small thinks h finishes running last =
+  made_in_order follows placed now some early small h finishes running last =
       let start = start_of placed.starts in
       let seats = placed.seats in
       let done : (m : ℕ) → IsNumber p.work m → start m ≤ now → finish_of p.work start m ≤ now = λ m number begun. elim (cases_lt now (finish_of p.work start m)) [
@@ -123,7 +121,7 @@ module _ (p : Plannable) (order : IsServiceOrder p.work p.order) where
         | inr is ↦ is
       ] in
       let all : (m : ℕ) → IsNumber p.work m → start m ≤ now
-      = all_placed follows start (worker_of seats) now some (omega (arith, early)) small thinks done last.issues h.settled in
+      = all_placed follows start (worker_of seats) now some (omega (arith, early)) small done last.issues h.settled in
       let number_at : (i : ℕ) → i < p.work.count → IsNumber p.work (i + 1) = λ i inside. record { from = omega arith; to = omega arith } in
       let at : (i : ℕ) → i ≡ i + 1 - 1 = λ i. omega arith in
       let read : (xs : List ℕ) (i d : ℕ) → i < length xs → get_or xs i d ≡ get_or xs (i + 1 - 1) 0
@@ -132,7 +130,7 @@ module _ (p : Plannable) (order : IsServiceOrder p.work p.order) where
         starts_count = h.starts_count;
         seats_count = h.seats_count;
         printable = λ i d inside. omega (arith, read placed.starts i d inside, all (i + 1) (number_at i (omega (arith, h.starts_count))), early);
-        plan = settled_plan (p.order.before start) (TakesFirst p.priority (p.order.key start)) p.work p.workers (order.numbers start) (follows_messages p.work follows) start (worker_of seats) now all h.settled;
+        plan = settled_plan (p.order.before start) (TakesFirst p.priority (p.order.key start)) p.work p.workers (order.numbers start) (awaits_messages p.work follows) start (worker_of seats) now all h.settled;
         seated = λ m number. h.settled.seated m number (all m number);
         known = λ i d inside.
             let number = number_at i (omega (arith, h.seats_count)) in

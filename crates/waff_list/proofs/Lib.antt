@@ -1,4 +1,3 @@
-mod IssueLemmas
 pub mod Graham
 pub mod Pigeonhole
 mod Running
@@ -24,6 +23,7 @@ mod TailOrders
 mod Services
 mod Orders
 mod Keeping
+mod Opening
 mod Placing
 mod Filling
 mod Issuing

@@ -19,8 +19,8 @@ use Rattle.waff_list.specs.Waiting.{AreManned, AreFinishes, Runs}
 use Rattle.waff_plan.specs.declared.due.TheConstants.{NEVER}
 use Rattle.waff_waits.proofs.Each.{each_there, each_moved, each_same, each_apart, contains_rest_of, contains_first, contains_map, contains_mapped, manned_more}
 use Rattle.waff_list.proofs.TailLemmas.{IsAhead}
-use Rattle.waff_list.proofs.Uniqueness.{AreAlike, FollowsMessages}
-use Rattle.waff_list.proofs.IssueLemmas.{issue_same, followed_by}
+use Rattle.waff_list.proofs.Uniqueness.{AreAlike, AwaitsMessages}
+use Rattle.waff_plan.proofs.Holding.{awaited-le-issue, same_issue}
 use Rattle.waff_list.proofs.Running.{AreSeatedAt, runs_parts, runs_before_start, runs_after_finish, runs_from, runs_same, running_same, running_none, running_within, running_all, running_fewer}
 
 -- the same numbers but at x, which has y
@@ -37,7 +37,7 @@ holds_same work start later i m same_i same_m h = record {
 }
 
 module _ (before taken_first : Relation) (work : Work) (k : ℕ) (numbers : (i j : ℕ) → before i j → IsNumber work i × IsNumber work j)
-    (followed : FollowsMessages work) where
+    (awaited : AwaitsMessages work) where
   -- messages that run have been placed, so they have their workers
   pub seated_at : (start worker : ℕ → ℕ) (now turn end t : ℕ) → IsSettled before taken_first work k start worker now turn end → t ≤ now → AreSeatedAt work k start worker t
   seated_at start worker now turn end t h early = record {
@@ -290,16 +290,16 @@ module _ (before taken_first : Relation) (work : Work) (k : ℕ) (numbers : (i j
 
     -- what is issued by now in the new plan was issued then
     pub issue_back : (m t : ℕ) → t ≤ now → issue_of work later m ≤ t → issue_of work later m ≡ issue_of work start m
-    issue_back m t early issued = issue_same work later start m (λ f follows. elim (cases_eq f x) [
-      | inl same ↦ absurd (omega (arith, followed_by work later m t f issued follows, early, ap (finish_of work later) same, at_x, cost))
-      | inr other ↦ kept f (followed f m follows) other
+    issue_back m t early issued = same_issue work later start m (λ i is. elim (cases_eq i x) [
+      | inl same ↦ absurd (omega (arith, awaited-le-issue work later i m is, issued, early, ap (finish_of work later) same, at_x, cost))
+      | inr other ↦ kept i (awaited i m is) other
     ])
 
     -- and stays so
     pub issue_kept : (m t : ℕ) → t ≤ now → issue_of work start m ≤ t → issue_of work later m ≡ issue_of work start m
-    issue_kept m t early issued = issue_same work later start m (λ f follows. elim (cases_eq f x) [
-      | inl same ↦ absurd (omega (arith, followed_by work start m t f issued follows, early, ap (finish_of work start) same, never, short))
-      | inr other ↦ kept f (followed f m follows) other
+    issue_kept m t early issued = same_issue work later start m (λ i is. elim (cases_eq i x) [
+      | inl same ↦ absurd (omega (arith, awaited-le-issue work start i m is, issued, early, ap (finish_of work start) same, never, short))
+      | inr other ↦ kept i (awaited i m is) other
     ])
 
     -- what is ready in the new plan by now was ready

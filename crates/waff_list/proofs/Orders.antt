@@ -8,7 +8,7 @@ use Rattle.std.proofs.lemmas.List.{get_or_default}
 use Rattle.std.proofs.lemmas.List.Elements.{Contains-get_or}
 use Rattle.waff_order.specs.Needs.{AreLists, IsNeed, needs_of}
 use Rattle.waff_order.proofs.NeedLemmas.{need_within, path_one}
-use Rattle.waff_plan.specs.Obeys.{FollowsNone}
+use Rattle.waff_plan.specs.Obeys.{AwaitsNone}
 use Rattle.waff_plan.specs.Work.{Work, IsAmongFirst, IsNumber, finish_of, issue_of}
 use Rattle.waff_plan.proofs.NoClients.{issue_is_floor}
 use Rattle.waff_plan.proofs.Places.{earlier_place, place_of, place_to}
@@ -33,7 +33,7 @@ path_numbers given lists (suc n) i m (j, first, rest) =
     let more = path_numbers given lists n j m rest in
     (lists.from i j first, omega (arith, lists.earlier i j first, more.1), more.2)
 
-pub numbers_serve : (given : List (List ℕ)) (work : Work) → AreLists given → length given ≡ work.count → FollowsNone work → IsSmall work → IsServiceOrder work (by_number given)
+pub numbers_serve : (given : List (List ℕ)) (work : Work) → AreLists given → length given ≡ work.count → AwaitsNone work → IsSmall work → IsServiceOrder work (by_number given)
 numbers_serve given work lists same none small = record {
   numbers = λ start i m path.
       let is = path_numbers given lists path.0 i m path.1 in

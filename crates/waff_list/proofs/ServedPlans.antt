@@ -1,7 +1,7 @@
 -- Plans in which no worker idles, in the order that they serve and in that of their starts.
-use Rattle.std.proofs.Common.{◌≡◌, ℕ, ◌≤◌, List, length}
+use Rattle.std.proofs.Common.{◌≡◌, ℕ, ◌≤◌, true, List, length}
 use Rattle.waff_model.specs.Tree.{Node}
-use Rattle.waff_model.specs.declared.message.Version.TheVariants.{V3}
+use Rattle.waff_model.specs.Versions.{has_clients}
 use Rattle.waff_assign.specs.Order.{Relation}
 use Rattle.waff_plan.specs.Bound.{IsWithinBound, IsWithinRatio, IsWithinTwice}
 use Rattle.waff_plan.specs.Chain.{IsChain, IsPrinted}
@@ -55,7 +55,7 @@ module _ (tree : List Node) (assigned : List ℕ) (plan : Timetable) (table : Is
       within = h.within;
     }
 
-  module _ (obeys : plan.version ≡ V3 → Obeys served work start) (some : 1 ≤ k) (chain : List ℕ) (printed : IsPrinted started work start chain) where
+  module _ (obeys : has_clients plan.version ≡ true → Obeys served work start) (some : 1 ≤ k) (chain : List ℕ) (printed : IsPrinted started work start chain) where
     forward : IsForward started work
     forward = started_forward tree assigned plan.timings start same plan.version table.timings obeys
 

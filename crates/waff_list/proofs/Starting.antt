@@ -17,7 +17,7 @@ use Rattle.waff_plan.specs.declared.due.TheConstants.{NEVER}
 use Rattle.waff_waits.proofs.Each.{none_there, contains_first, each_there, each_apart}
 use Rattle.waff_list.proofs.FinishLemmas.{finishes_place}
 use Rattle.waff_list.proofs.Making.{IsMovedTo, IsPassedOver, all_run, more_placed, moved_here, progress_place, manned_place, progress_skip, progress_filled, ready_place, issue_was, issue_stays}
-use Rattle.waff_list.proofs.Uniqueness.{AreAlike, FollowsMessages}
+use Rattle.waff_list.proofs.Uniqueness.{AreAlike, AwaitsMessages}
 
 -- the plan has been made up to the tick now and the message turn; the messages that run, the workers that are idle, and all messages that are
 -- ready, placed or waiting
@@ -28,7 +28,7 @@ pub record IsStartingOf (before first : Relation) (work : Work) (k : ℕ) (place
   pub manned : AreManned k placed.seats running free
   pub ready : AreEach (IsReady before work (start_of placed.starts) now) (placed.order ++ waiting)
 
-module _ (work : Work) (k : ℕ) (followed : FollowsMessages work) where
+module _ (work : Work) (k : ℕ) (awaited : AwaitsMessages work) where
   module _ (before first : Relation) (numbers : (i j : ℕ) → before i j → IsNumber work i × IsNumber work j) (placed : Placed) (running : List (ℕ × ℕ)) (now turn : ℕ) where
     module _ (free waiting : List ℕ) (h : IsStartingOf before first work k placed running free waiting now turn) where
       -- what waits is ready and has not been placed
@@ -54,14 +54,14 @@ module _ (work : Work) (k : ℕ) (followed : FollowsMessages work) where
       -- where no worker is idle or none waits, and none that waits is taken before one that starts at now, the tick has been filled
       pub starts_filled : (free ≡ []) ⊎ (waiting ≡ []) → ((m other : ℕ) → Contains waiting m → IsNumber work other → first m other → start_of placed.starts other ≢ now)
           → IsProgressOf before first work k placed now (work.count + 1) (now + 1)
-      starts_filled over in_turn = progress_filled before first work k numbers followed placed now turn h.to passed_over h.progress
+      starts_filled over in_turn = progress_filled before first work k numbers awaited placed now turn h.to passed_over h.progress
         where
-          passed_over : IsPassedOver before first work k numbers followed (start_of placed.starts) now
+          passed_over : IsPassedOver before first work k numbers awaited (start_of placed.starts) now
           passed_over m ready waits =
               let there = it_waits m ready waits in
               elim over [
                 | inl none ↦ (
-                  all_run before first work k numbers followed (start_of placed.starts) (worker_of placed.seats) now turn now h.progress.settled running free h.finishes h.manned none,
+                  all_run before first work k numbers awaited (start_of placed.starts) (worker_of placed.seats) now turn now h.progress.settled running free h.finishes h.manned none,
                   λ other number takes. in_turn m other there number takes,
                 )
                 | inr none ↦ absurd (none_there m (rw none at there))
@@ -77,20 +77,20 @@ module _ (work : Work) (k : ℕ) (followed : FollowsMessages work) where
       late = unplaced (w ∷ free) (m ∷ waiting) h m (contains_first m waiting)
 
       pub at : IsProgressOf before first work k placed now m now
-      at = progress_skip before first work k numbers followed placed now turn m up_to h.progress
+      at = progress_skip before first work k numbers awaited placed now turn m up_to h.progress
 
       abbrev pub more : Placed
-      more = more_placed before first work k numbers followed placed running free now m w here.number short cost late at h.finishes h.manned smallest
+      more = more_placed before first work k numbers awaited placed running free now m w here.number short cost late at h.finishes h.manned smallest
 
       pub starts_moved : IsMovedTo (start_of placed.starts) (start_of more.starts) m now
-      starts_moved = moved_here before first work k numbers followed placed running free now m w here.number short cost late at h.finishes h.manned smallest
+      starts_moved = moved_here before first work k numbers awaited placed running free now m w here.number short cost late at h.finishes h.manned smallest
 
       -- what is issued by now in the new plan was issued then, and what was issued stays so
       pub starts_issued : (i : ℕ) → issue_of work (start_of more.starts) i ≤ now → issue_of work (start_of more.starts) i ≡ issue_of work (start_of placed.starts) i
-      starts_issued i = issue_was before first work k numbers followed placed running free now m w here.number short cost late at h.finishes h.manned smallest i now (omega arith)
+      starts_issued i = issue_was before first work k numbers awaited placed running free now m w here.number short cost late at h.finishes h.manned smallest i now (omega arith)
 
       pub starts_issue : (i : ℕ) → issue_of work (start_of placed.starts) i ≤ now → issue_of work (start_of more.starts) i ≡ issue_of work (start_of placed.starts) i
-      starts_issue i = issue_stays before first work k numbers followed placed running free now m w here.number short cost late at h.finishes h.manned smallest i now (omega arith)
+      starts_issue i = issue_stays before first work k numbers awaited placed running free now m w here.number short cost late at h.finishes h.manned smallest i now (omega arith)
 
       pub starts_more : (near second : Relation) → ((i j : ℕ) → near i j → IsNumber work j)
           → AreAlike work before near first second (start_of placed.starts) (start_of more.starts) now
@@ -100,9 +100,9 @@ module _ (work : Work) (k : ℕ) (followed : FollowsMessages work) where
           let moved = starts_moved in
           record {
             to = omega (arith, number.to);
-            progress = progress_place before first work k numbers followed placed running free now m w number short cost late at h.finishes h.manned smallest near second near_number alike here.issued here.free;
+            progress = progress_place before first work k numbers awaited placed running free now m w number short cost late at h.finishes h.manned smallest near second near_number alike here.issued here.free;
             finishes = finishes_place work (start_of placed.starts) (start_of more.starts) now m running after number late moved.here cost moved.others pushed h.finishes;
-            manned = manned_place before first work k numbers followed placed running free now m w number short cost late at h.finishes h.manned smallest after pushed;
+            manned = manned_place before first work k numbers awaited placed running free now m w number short cost late at h.finishes h.manned smallest after pushed;
             ready = subst (λ xs. AreEach (IsReady near work (start_of more.starts) now) xs) (sym (append_assoc placed.order (m ∷ []) waiting))
-                (ready_place before first work k numbers followed placed running free now m w number short cost late at h.finishes h.manned smallest near second alike (placed.order ++ m ∷ waiting) h.ready);
+                (ready_place before first work k numbers awaited placed running free now m w number short cost late at h.finishes h.manned smallest near second alike (placed.order ++ m ∷ waiting) h.ready);
           }

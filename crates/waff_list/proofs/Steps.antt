@@ -31,10 +31,10 @@ use Rattle.waff_list.proofs.Orders.{service_order}
 
 -- a plan with other messages that are to be issued
 abbrev pub with_issues : Progress → List (ℕ × ℕ) → Progress
-with_issues p issues = record { starts = p.starts; seats = p.seats; order = p.order; idle = p.idle; finishes = p.finishes; issues = issues }
+with_issues p issues = record { starts = p.starts; seats = p.seats; order = p.order; idle = p.idle; finishes = p.finishes; issues = issues; awaits = p.awaits }
 
 waiting_as : (task : Task) (p : Progress) (w : Waiting) (rest issued : List ℕ) (now : ℕ) (issues : List (ℕ × ℕ)) → IsWaiting task p w rest issued now → IsWaiting task (with_issues p issues) w rest issued now
-waiting_as task p w rest issued now issues h = record { needs = h.needs; kept = h.kept; known = h.known; fits = h.fits; ranked = h.ranked }
+waiting_as task p w rest issued now issues h = record { needs = h.needs; kept = h.kept; known = h.known; fits = h.fits; ranked = h.ranked; awaiting = h.awaiting }
 
 -- the issues of those that are still to be issued, in another order
 joining_moved : (work : Work) (start : ℕ → ℕ) (now : ℕ) (issued : List ℕ) (issues others : List (ℕ × ℕ)) → IsPermutation issues others → AreJoining work start now issued issues
@@ -91,13 +91,13 @@ order_of_waiting task p w rest issued now h = service_order w.service (work task
 pub record AreStartingTo (task : Task) (old : List ℕ) (p : Progress) (w : Waiting) (was : List (ℕ × (ℕ × ℕ))) (now : ℕ) (messages : List ℕ) (at : ℕ) : Type 0 where
   pub issued : List ℕ
   pub needs : List (List ℕ)
-  pub on : IsStartedTo (plannable_of task (basis_of w.service)) old (placed_in p) p.finishes p.idle w.waits p.issues was w.ready issued needs now messages at
+  pub on : IsStartedTo (plannable_of task (basis_of w.service)) old (placed_in p) p.finishes p.idle w.waits p.issues p.awaits was w.ready issued needs now messages at
   pub known : AreKnown w.service (length task.timings.items) issued needs
   pub fits : Fits w.service (work task)
 
 -- what stays of the plan while messages finish
 abbrev pub ran_as : Progress → Progress → Progress
-ran_as old new = record { starts = old.starts; seats = old.seats; order = old.order; idle = new.idle; finishes = new.finishes; issues = old.issues }
+ran_as old new = record { starts = old.starts; seats = old.seats; order = old.order; idle = new.idle; finishes = new.finishes; issues = old.issues; awaits = old.awaits }
 
 -- while messages finish by next: those that waited for one that has finished have been let go
 pub record AreWoken (task : Task) (next : ℕ) (p : Progress) (w : Waiting) (q : Progress) (v : Waiting) : Type 0 where
@@ -191,6 +191,7 @@ module _ (task : Task) (p : Progress) (w : Waiting) (now : ℕ) (short : now + 2
             known = h.known;
             fits = h.fits;
             ranked = woken.ranked h.ranked;
+            awaiting = h.awaiting;
           };
         } in
         subst (λ (x : Progress). AreIssuing task x v x.issues next) (sym woken.progress)

@@ -5,7 +5,7 @@ use Rattle.std.proofs.lemmas.List.Sums.{sum_by-cons}
 use Rattle.waff_model.specs.Tree.{Node}
 use Rattle.waff_assign.specs.Order.{Relation, IsOrdered, PathBy, Path}
 use Rattle.waff_plan.specs.Work.{Work, IsNumber}
-use Rattle.waff_plan.specs.Obeys.{IsForward, FollowsNone}
+use Rattle.waff_plan.specs.Obeys.{IsForward, AwaitsNone}
 use Rattle.waff_plan.specs.Chain.{LinksOn, IsChain, chain_cost}
 use Rattle.waff_order.specs.Needs.{IsNeed, AreNeeds}
 use Rattle.waff_plan.proofs.NoClients.{linked_before}
@@ -65,7 +65,7 @@ tails_are_one before work ahead tail other tails others m number =
     same_from before work ahead tail other tails others (work.count + 1) m number (omega arith)
 
 -- no chain from a message costs more than its tail
-chain_within : (before : Relation) (work : Work) → FollowsNone work → (tail : ℕ → ℕ) → AreTails before work tail → (m : ℕ) (rest : List ℕ) → LinksOn before work m rest
+chain_within : (before : Relation) (work : Work) → AwaitsNone work → (tail : ℕ → ℕ) → AreTails before work tail → (m : ℕ) (rest : List ℕ) → LinksOn before work m rest
     → chain_cost work (m ∷ rest) ≤ tail m
 chain_within before work none tail tails m [] number = elim (tails.one m number) [
   | inl (_, is) ↦ omega (arith, sum_by-cons work.cost m [])
@@ -85,7 +85,7 @@ chain_from before work ahead tail tails (suc n) m number last = elim (tails.one 
       (later ∷ chain.0, (number, inl pair, chain.1), omega (arith, is, chain.2, sum_by-cons work.cost m (later ∷ chain.0)))
 ]
 
-pub tail_is_greatest_chain : (before : Relation) (work : Work) → IsAhead before work → FollowsNone work → TailIsGreatestChain before work
+pub tail_is_greatest_chain : (before : Relation) (work : Work) → IsAhead before work → AwaitsNone work → TailIsGreatestChain before work
 tail_is_greatest_chain before work ahead none tail m tails number = record {
   each = λ rest chain. chain_within before work none tail tails m rest chain;
   one = chain_from before work ahead tail tails (work.count + 1) m number (omega arith);

@@ -1,42 +1,42 @@
 -- The tails of messages while they are made, from the last message to the first. A message that has not had its turn holds the greatest
 -- tail of those that it holds back, of the ones that have, each with the gap between them.
-use Rattle.std.proofs.Common.{◌≡◌, ◌≢◌, ℕ, ◌+◌, ◌-◌, ◌*◌, ◌^◌, ◌<◌, ◌≤◌, ◌⊎◌, inl, inr, max, List, [], ◌∷◌, ◌++◌, length, get_or, set, take, Contains, Some, arith, refl, sym, ◌∙◌, subst, get_or-set_same, get_or-set_other}
+use Rattle.std.proofs.Common.{◌≡◌, ◌≢◌, ℕ, ◌+◌, ◌-◌, ◌*◌, ◌^◌, ◌<◌, ◌≤◌, ◌⊎◌, inl, inr, max, List, [], ◌∷◌, ◌++◌, length, get_or, set, take, Contains, arith, refl, sym, ◌∙◌, subst, get_or-set_same, get_or-set_other}
 use Rattle.std.proofs.lemmas.Bool.{cases_eq, cases_lt, cases_order}
 use Rattle.std.proofs.lemmas.List.{length-set, take_more}
 use Rattle.std.proofs.lemmas.List.Elements.{Contains-append_left, Contains-push, Contains-push_cases}
 use Rattle.waff_assign.specs.Order.{Relation}
-use Rattle.waff_plan.specs.Work.{Work, IsNumber}
-use Rattle.waff_plan.specs.Obeys.{FollowsEarlier, FollowsOnce, IsEarlier}
+use Rattle.waff_plan.specs.Work.{Work, IsAwaited, IsNumber, gap_of}
+use Rattle.waff_plan.specs.Obeys.{AwaitsEarlier, IsEarlier}
 use Rattle.waff_list.specs.ByIssue.{AreClientTails}
 use Rattle.waff_list.specs.Tails.{tail_of, IsBeforeNone, AreTails, AreRaised}
 
-module _ (before : Relation) (work : Work) (gap : ℕ → ℕ) where
+module _ (before : Relation) (work : Work) (gap : ℕ → ℕ → ℕ) where
   -- what hangs on a message behind its cost, where this later one does
-  abbrev behind : (ℕ → ℕ) → ℕ → ℕ
-  behind tail later = gap later + tail later
+  abbrev behind : (ℕ → ℕ) → ℕ → ℕ → ℕ
+  behind tail m later = gap m later + tail later
 
   -- the tail of message m is its cost, and the greatest of what hangs on it
   abbrev IsTail : (ℕ → ℕ) → ℕ → Type 0
-  IsTail tail m = (IsBeforeNone before m × (tail m ≡ work.cost m)) ⊎ ((later : ℕ) × before m later × (tail m ≡ work.cost m + behind tail later))
+  IsTail tail m = (IsBeforeNone before m × (tail m ≡ work.cost m)) ⊎ ((later : ℕ) × before m later × (tail m ≡ work.cost m + behind tail m later))
 
   -- the messages after message n have had their turns
   pub record AreTailsAfter (tail : ℕ → ℕ) (n : ℕ) : Type 0 where
-    pub each : (m later : ℕ) → before m later → n < m → work.cost m + behind tail later ≤ tail m
+    pub each : (m later : ℕ) → before m later → n < m → work.cost m + behind tail m later ≤ tail m
     pub one : (m : ℕ) → IsNumber work m → n < m → IsTail tail m
-    pub best : (m later : ℕ) → before m later → m ≤ n → n < later → behind tail later ≤ tail m
+    pub best : (m later : ℕ) → before m later → m ≤ n → n < later → behind tail m later ≤ tail m
     pub best_one : (m : ℕ) → IsNumber work m → m ≤ n → (((later : ℕ) → before m later → later ≤ n) × (tail m ≡ 0))
-        ⊎ ((later : ℕ) × before m later × (n < later) × (tail m ≡ behind tail later))
+        ⊎ ((later : ℕ) × before m later × (n < later) × (tail m ≡ behind tail m later))
     pub small : (m : ℕ) → IsNumber work m → tail m ≤ (work.count - n) * 2 ^ 33
 
   -- message n has had its turn
   pub record TakesTurn (old new : ℕ → ℕ) (n : ℕ) : Type 0 where
     pub here : new n ≡ old n + work.cost n
     pub later : (m : ℕ) → n < m → new m ≡ old m
-    pub each : (m : ℕ) → before m n → behind new n ≤ new m
+    pub each : (m : ℕ) → before m n → behind new m n ≤ new m
     pub kept : (m : ℕ) → 1 ≤ m → m < n → old m ≤ new m
-    pub one : (m : ℕ) → 1 ≤ m → m < n → (new m ≡ old m) ⊎ (before m n × (new m ≡ behind new n))
+    pub one : (m : ℕ) → 1 ≤ m → m < n → (new m ≡ old m) ⊎ (before m n × (new m ≡ behind new m n))
 
-module _ (before : Relation) (work : Work) (gap : ℕ → ℕ) (forward : (i j : ℕ) → before i j → IsEarlier work i j) where
+module _ (before : Relation) (work : Work) (gap : ℕ → ℕ → ℕ) (forward : (i j : ℕ) → before i j → IsEarlier work i j) where
   -- no message has had its turn
   pub tails_none : (tail : ℕ → ℕ) → ((m : ℕ) → tail m ≡ 0) → AreTailsAfter before work gap tail work.count
   tails_none tail none = record {
@@ -47,7 +47,7 @@ module _ (before : Relation) (work : Work) (gap : ℕ → ℕ) (forward : (i j :
     small = λ m number. omega (arith, none m);
   }
 
-  module _ (old new : ℕ → ℕ) (n : ℕ) (number : IsNumber work n) (some : 1 ≤ work.cost n) (little : work.cost n < 2 ^ 32) (short : gap n < 2 ^ 32)
+  module _ (old new : ℕ → ℕ) (n : ℕ) (number : IsNumber work n) (some : 1 ≤ work.cost n) (little : work.cost n < 2 ^ 32) (short : (i : ℕ) → gap i n < 2 ^ 32)
       (h : AreTailsAfter before work gap old n) (turn : TakesTurn before work gap old new n) where
     from : 1 ≤ n
     from = number.from
@@ -55,7 +55,7 @@ module _ (before : Relation) (work : Work) (gap : ℕ → ℕ) (forward : (i j :
     to : n ≤ work.count
     to = number.to
 
-    each_more : (m later : ℕ) → before m later → n - 1 < m → work.cost m + behind before work gap new later ≤ new m
+    each_more : (m later : ℕ) → before m later → n - 1 < m → work.cost m + behind before work gap new m later ≤ new m
     each_more m later pair after =
         let earlier = (forward m later pair).earlier in
         let kept = turn.later later (omega (arith, after, earlier)) in
@@ -88,16 +88,16 @@ module _ (before : Relation) (work : Work) (gap : ℕ → ℕ) (forward : (i j :
       | inr other ↦ one_after m m_number (omega arith)
     ]
 
-    best_more : (m later : ℕ) → before m later → m ≤ n - 1 → n - 1 < later → behind before work gap new later ≤ new m
+    best_more : (m later : ℕ) → before m later → m ≤ n - 1 → n - 1 < later → behind before work gap new m later ≤ new m
     best_more m later pair early after = elim (cases_eq later n) [
-      | inl here ↦ subst (λ x. behind before work gap new x ≤ new m) (sym here) (turn.each m (subst (λ x. before m x) here pair))
+      | inl here ↦ subst (λ x. behind before work gap new m x ≤ new m) (sym here) (turn.each m (subst (λ x. before m x) here pair))
       | inr other ↦
           let past : n < later = omega (arith, after, other) in
           omega (arith, turn.later later past, h.best m later pair (omega (arith, early)) past, turn.kept m ((forward m later pair).from) (omega (arith, early)))
     ]
 
     best_one_more : (m : ℕ) → IsNumber work m → m ≤ n - 1
-        → (((later : ℕ) → before m later → later ≤ n - 1) × (new m ≡ 0)) ⊎ ((later : ℕ) × before m later × (n - 1 < later) × (new m ≡ behind before work gap new later))
+        → (((later : ℕ) → before m later → later ≤ n - 1) × (new m ≡ 0)) ⊎ ((later : ℕ) × before m later × (n - 1 < later) × (new m ≡ behind before work gap new m later))
     best_one_more m m_number early = elim (turn.one m m_number.from (omega arith)) [
       | inl kept ↦ elim (h.best_one m m_number (omega arith)) [
         | inl (none, zero) ↦ inl (
@@ -119,7 +119,7 @@ module _ (before : Relation) (work : Work) (gap : ℕ → ℕ) (forward : (i j :
         let here : new n ≤ (work.count - (n - 1)) * 2 ^ 33 = omega (arith, h.small n number, turn.here) in
         elim (cases_order m n) [
           | inl same ↦ rw same here
-          | inr (inl early) ↦ elim (turn.one m m_number.from early) [ inl kept ↦ omega (arith, was, kept) | inr (_, is) ↦ omega (arith, is, h.small n number, turn.here, short) ]
+          | inr (inl early) ↦ elim (turn.one m m_number.from early) [ inl kept ↦ omega (arith, was, kept) | inr (_, is) ↦ omega (arith, is, h.small n number, turn.here, short m) ]
           | inr (inr after) ↦ omega (arith, was, turn.later m after)
         ]
 
@@ -185,9 +185,9 @@ module _ (old new messages : List ℕ) (tail at : ℕ) (inside : at < length mes
   }
 
 -- a message that has its cost, and the messages that it holds back raised to what then hangs on it, has had its turn
-module _ (before : Relation) (work : Work) (gap : ℕ → ℕ) (forward : (i j : ℕ) → before i j → IsEarlier work i j)
+module _ (before : Relation) (work : Work) (gap : ℕ → ℕ → ℕ) (forward : (i j : ℕ) → before i j → IsEarlier work i j)
     (old new raised : List ℕ) (n tail most : ℕ) (from : 1 ≤ n) (to : n ≤ length old) (sum : tail ≡ tail_of old n + work.cost n)
-    (listed : (m : ℕ) → before m n → Contains raised m × (gap n + tail ≡ most)) (only : (m : ℕ) → Contains raised m → before m n)
+    (listed : (m : ℕ) → before m n → Contains raised m × (gap m n + tail ≡ most)) (only : (m : ℕ) → Contains raised m → before m n)
     (h : AreRaised (set old (n - 1) tail) raised most new) where
   set_here : tail_of (set old (n - 1) tail) n ≡ tail
   set_here = get_or-set_same old (n - 1) tail 0 (omega arith)
@@ -230,7 +230,7 @@ raised_none old most = record {
 
 -- all have had their turns: over needs, with no gaps
 pub tails_over : (before : Relation) (work : Work) → ((i j : ℕ) → before i j → IsEarlier work i j)
-    → (tail : ℕ → ℕ) → AreTailsAfter before work (λ m. 0) tail 0 → AreTails before work tail
+    → (tail : ℕ → ℕ) → AreTailsAfter before work (λ i m. 0) tail 0 → AreTails before work tail
 tails_over before work forward tail h = record {
   each = λ m later pair. omega (arith, h.each m later pair (omega (arith, (forward m later pair).from)));
   one = λ m number. elim (h.one m number (omega (arith, number.from))) [
@@ -239,18 +239,12 @@ tails_over before work forward tail h = record {
   ];
 }
 
--- and of clients
-pub tails_of_clients : (work : Work) → FollowsEarlier work → FollowsOnce work → (tail : ℕ → ℕ)
-    → AreTailsAfter (λ i m. work.follows m ≡ Some i) work work.think tail 0 → AreClientTails work tail
-tails_of_clients work earlier once tail h = record {
-  next = λ m n number follow.
-      let before = earlier m n follow in
-      elim (h.one m (record { from = before.from; to = omega (arith, before.earlier, before.to) }) (omega (arith, before.from))) [
-        | inl (none, _) ↦ absurd (none n follow)
-        | inr (later, pair, is) ↦ subst (λ x. tail m ≡ work.cost m + (work.think x + tail x)) (once m later n pair follow) is
-      ];
-  last = λ m number none. elim (h.one m number (omega (arith, number.from))) [
-    | inl (_, is) ↦ is
-    | inr (later, pair, _) ↦ let before = earlier m later pair in absurd (none later (record { from = omega (arith, before.from, before.earlier); to = before.to }) pair)
+-- and of what messages await
+pub tails_of_clients : (work : Work) → AwaitsEarlier work → (tail : ℕ → ℕ) → AreTailsAfter (λ i m. IsAwaited (work.awaits m) i) work (gap_of work) tail 0 → AreClientTails work tail
+tails_of_clients work earlier tail h = record {
+  each = λ m later number awaited. h.each m later awaited (omega (arith, (earlier m later awaited).from));
+  one = λ m number. elim (h.one m number (omega (arith, number.from))) [
+    | inl (none, is) ↦ inl ((λ later later_number awaited. none later awaited), is)
+    | inr (later, awaited, is) ↦ let before = earlier m later awaited in inr (later, record { from = omega (arith, before.from, before.earlier); to = before.to }, awaited, is)
   ];
 }

@@ -1,14 +1,14 @@
 -- The list plan for k workers is one: two list plans that are the same below a tick are the same at it. A message that starts at
 -- the tick in one and later in the other would be one more than the k that run in the other.
-use Rattle.std.proofs.Common.{◌≡◌, ◌≢◌, ℕ, zero, suc, ◌+◌, ◌<◌, ◌≤◌, ◌⊎◌, ◌↔◌, inl, inr, Some, Bool, true, false, cond, sum_by, count_by, refl, arith, sym, ap, subst, ◌∙◌}
+use Rattle.std.proofs.Common.{◌≡◌, ◌≢◌, ℕ, zero, suc, ◌+◌, ◌<◌, ◌≤◌, ◌⊎◌, ◌↔◌, inl, inr, Bool, true, false, cond, sum_by, count_by, refl, arith, sym, ap, subst, ◌∙◌}
 use Rattle.std.specs.List.{range_with_len}
 use Rattle.std.proofs.lemmas.Bool.{cases_lt, cases_order}
 use Rattle.waff_assign.specs.Order.{Relation}
-use Rattle.waff_plan.specs.Work.{Work, IsNumber, IsAmongFirst, issue_of}
+use Rattle.waff_plan.specs.Work.{Work, IsAwaited, IsNumber, IsAmongFirst, issue_of}
 use Rattle.waff_plan.specs.Obeys.{IsForward}
 use Rattle.waff_plan.specs.Workers.{runs_at}
 use Rattle.waff_plan.proofs.Longest.{sum_more}
-use Rattle.waff_list.proofs.IssueLemmas.{issue_same, followed_by}
+use Rattle.waff_plan.proofs.Holding.{awaited-le-issue, same_issue}
 use Rattle.waff_list.proofs.Running.{runs_parts, runs_from, runs_before_start}
 use Rattle.waff_list.specs.ListRule.{IsReady, IsTakenFirst, IsListPlan, arrival}
 use Rattle.waff_plan.specs.Unique.{AreSame}
@@ -115,25 +115,25 @@ pub alike_turned : (work : Work) (before near first second : Relation) (start ot
 alike_turned work before near first second start other t h =
     record { before_to = h.before_back; before_back = h.before_to; first_to = h.first_back; first_back = h.first_to }
 
--- each message that is followed is one
-abbrev pub FollowsMessages : Work → Type 0
-FollowsMessages work = (f m : ℕ) → work.follows m ≡ Some f → IsNumber work f
+-- each message that is awaited is one
+abbrev pub AwaitsMessages : Work → Type 0
+AwaitsMessages work = (i m : ℕ) → IsAwaited (work.awaits m) i → IsNumber work i
 
 -- where plans start the same messages below t, they issue the same by t
-pub issue_alike : (work : Work) → FollowsMessages work → EachRuns work → (start other : ℕ → ℕ) (t : ℕ) → AreSameBelow work start other t → (m : ℕ)
+pub issue_alike : (work : Work) → AwaitsMessages work → EachRuns work → (start other : ℕ → ℕ) (t : ℕ) → AreSameBelow work start other t → (m : ℕ)
     → issue_of work start m ≤ t → issue_of work start m ≡ issue_of work other m
-issue_alike work followed runs start other t same m issued = issue_same work start other m (λ f follows.
-    let number = followed f m follows in
-    sym (same.there f number (omega (arith, followed_by work start m t f issued follows, runs f number))))
+issue_alike work awaited runs start other t same m issued = same_issue work start other m (λ i is.
+    let number = awaited i m is in
+    sym (same.there i number (omega (arith, awaited-le-issue work start i m is, issued, runs i number))))
 
-module _ (before near first second : Relation) (work : Work) (k : ℕ) (start other : ℕ → ℕ) (t : ℕ) (followed : FollowsMessages work) (runs : EachRuns work)
+module _ (before near first second : Relation) (work : Work) (k : ℕ) (start other : ℕ → ℕ) (t : ℕ) (awaited : AwaitsMessages work) (runs : EachRuns work)
     (numbers : (i m : ℕ) → before i m → IsNumber work i) (plan : IsListPlan before first work k start)
     (same : AreSameBelow work start other t) (alike : AreAlike work before near first second start other t) where
   -- what one plan starts at t is ready at t in the other, if it has not started there
   ready_in_other : (m : ℕ) → IsNumber work m → start m ≡ t → IsReady near work other t m
   ready_in_other m number here =
       let issued : issue_of work start m ≤ t = omega (arith, plan.within.obeys.issued m number, here) in
-      let other_issued : issue_of work other m ≤ t = omega (arith, issued, issue_alike work followed runs start other t same m issued) in
+      let other_issued : issue_of work other m ≤ t = omega (arith, issued, issue_alike work awaited runs start other t same m issued) in
       record {
         number = number;
         issued = other_issued;
@@ -144,15 +144,15 @@ module _ (before near first second : Relation) (work : Work) (k : ℕ) (start ot
             rw (sym (same.there i i_number (omega (arith, done, here, runs i i_number))), here) at done;
       }
 
-module _ (before near first second : Relation) (work : Work) (k : ℕ) (start other : ℕ → ℕ) (t : ℕ) (followed : FollowsMessages work) (runs : EachRuns work)
+module _ (before near first second : Relation) (work : Work) (k : ℕ) (start other : ℕ → ℕ) (t : ℕ) (awaited : AwaitsMessages work) (runs : EachRuns work)
     (numbers : (i m : ℕ) → before i m → IsNumber work i) (near_numbers : (i m : ℕ) → near i m → IsNumber work i) (any : IsAny work first)
     (plan : IsListPlan before first work k start) (other_plan : IsListPlan near second work k other)
     (same : AreSameBelow work start other t) (alike : AreAlike work before near first second start other t) where
   here_is_ready : (m : ℕ) → IsNumber work m → start m ≡ t → IsReady near work other t m
-  here_is_ready = ready_in_other before near first second work k start other t followed runs numbers plan same alike
+  here_is_ready = ready_in_other before near first second work k start other t awaited runs numbers plan same alike
 
   there_is_ready : (m : ℕ) → IsNumber work m → other m ≡ t → IsReady before work start t m
-  there_is_ready = ready_in_other near before second first work k other start t followed runs near_numbers other_plan (turned work start other t same)
+  there_is_ready = ready_in_other near before second first work k other start t awaited runs near_numbers other_plan (turned work start other t same)
       (alike_turned work before near first second start other t alike)
 
   -- where m starts at t in one plan and later in the other, what the other starts at t the one does too
@@ -196,7 +196,7 @@ module _ (before near first second : Relation) (work : Work) (k : ℕ) (start ot
     | inr (inr later) ↦ absurd (not_later m number here later)
   ]
 
-module _ (before near first second : Relation) (work : Work) (k : ℕ) (start other : ℕ → ℕ) (followed : FollowsMessages work) (runs : EachRuns work)
+module _ (before near first second : Relation) (work : Work) (k : ℕ) (start other : ℕ → ℕ) (awaited : AwaitsMessages work) (runs : EachRuns work)
     (numbers : (i m : ℕ) → before i m → IsNumber work i) (near_numbers : (i m : ℕ) → near i m → IsNumber work i)
     (any : IsAny work first) (any_second : IsAny work second)
     (plan : IsListPlan before first work k start) (other_plan : IsListPlan near second work k other)
@@ -211,11 +211,11 @@ module _ (before near first second : Relation) (work : Work) (k : ℕ) (start ot
       record {
         there = λ m number sooner. elim (cases_lt (start m) t) [
           | inl before_t ↦ same.there m number before_t
-          | inr not_before ↦ at_tick before near first second work k start other t followed runs numbers near_numbers any plan other_plan same (alike t same) m number (omega arith)
+          | inr not_before ↦ at_tick before near first second work k start other t awaited runs numbers near_numbers any plan other_plan same (alike t same) m number (omega arith)
         ];
         back = λ m number sooner. elim (cases_lt (other m) t) [
           | inl before_t ↦ same.back m number before_t
-          | inr not_before ↦ at_tick near before second first work k other start t followed runs near_numbers numbers any_second other_plan plan
+          | inr not_before ↦ at_tick near before second first work k other start t awaited runs near_numbers numbers any_second other_plan plan
               (turned work start other t same) (alike_turned work before near first second start other t (alike t same)) m number (omega arith)
         ];
       }

@@ -1,14 +1,14 @@
 -- The list plan in the order in which messages are issued: what is issued first is served first, and of
 -- two ready messages of the same priority the one that is issued first is taken first.
-use Rattle.std.specs.Prelude.{◌≡◌, ℕ, ◌+◌, ◌<◌, ◌≤◌, ◌⊎◌, ◌↔◌, List, length, Some}
+use Rattle.std.specs.Prelude.{◌≡◌, ℕ, ◌+◌, ◌<◌, ◌≤◌, ◌⊎◌, ◌↔◌, List, length}
 use Rattle.waff_model.specs.Tree.{Node}
 use Rattle.waff_assign.specs.Order.{Relation, IsOrdered}
 use Rattle.waff_plan.specs.Bound.{IsWithinBound, IsWithinTwice}
 use Rattle.waff_plan.specs.Chain.{IsPrinted}
 use Rattle.waff_plan.specs.Issues.{IsIssuedBefore, IsServedBefore}
-use Rattle.waff_plan.specs.Obeys.{FollowsNone}
+use Rattle.waff_plan.specs.Obeys.{AwaitsNone}
 use Rattle.waff_plan.specs.Unique.{AreSame}
-use Rattle.waff_plan.specs.Work.{Work, IsNumber}
+use Rattle.waff_plan.specs.Work.{Work, IsAwaited, IsNumber, gap_of}
 use Rattle.waff_list.specs.ListRule.{IsListPlan, IsTakenFirst, arrival}
 use Rattle.waff_list.specs.declared.rule.Rule.{Rule}
 use Rattle.waff_list.specs.declared.rule.Rule.TheVariants.{Arrival, Longest}
@@ -25,26 +25,29 @@ IsListPlanByIssue tree assigned priority work k start =
     IsListPlan (IsServedBefore tree assigned work start) (IsTakenByIssue priority work start)
     work k start
 
--- no message follows m
-abbrev pub IsFollowedByNone : Work → ℕ → Type 0
-IsFollowedByNone work m = (n : ℕ) → IsNumber work n → work.follows n ≡ Some m → ⊥
+-- no message awaits m
+abbrev pub IsAwaitedByNone : Work → ℕ → Type 0
+IsAwaitedByNone work m =
+    (later : ℕ) → IsNumber work later → IsAwaited (work.awaits later) m → ⊥
 
--- the tails of clients' messages: the cost of a message, and the think time and the tail of the next
--- message of its client, where there is one
+-- the tails of messages that await others, as those of clients: the cost of a message, and of those that
+-- await it the greatest gap and tail, its cost alone where none does
 pub record AreClientTails (work : Work) (tail : ℕ → ℕ) : Type 0 where
-  pub next : (m n : ℕ) → IsNumber work n → work.follows n ≡ Some m
-      → tail m ≡ work.cost m + (work.think n + tail n)
-  pub last : (m : ℕ) → IsNumber work m → IsFollowedByNone work m → tail m ≡ work.cost m
+  pub each : (m later : ℕ) → IsNumber work later → IsAwaited (work.awaits later) m
+      → work.cost m + (gap_of work m later + tail later) ≤ tail m
+  pub one : (m : ℕ) → IsNumber work m → (IsAwaitedByNone work m × (tail m ≡ work.cost m))
+      ⊎ ((later : ℕ) × IsNumber work later × IsAwaited (work.awaits later) m
+      × (tail m ≡ work.cost m + (gap_of work m later + tail later)))
 
--- a list plan for k in the order of issue by this rule: by arrival, or by the tails of clients'
--- messages
+-- a list plan for k in the order of issue by this rule: by arrival, or by the tails of messages that
+-- await others
 abbrev pub IsPlanByIssue : Rule → List Node → List ℕ → Work → ℕ → (ℕ → ℕ) → Type 0
 IsPlanByIssue Arrival tree assigned work k start =
     IsListPlanByIssue tree assigned arrival work k start
 IsPlanByIssue Longest tree assigned work k start =
     (tail : ℕ → ℕ) × AreClientTails work tail × IsListPlanByIssue tree assigned tail work k start
 
--- clients' messages have one tail each
+-- such messages have one tail each
 abbrev pub ClientTailsAreOne : Work → Type 0
 ClientTailsAreOne work =
     (tail other : ℕ → ℕ) → AreClientTails work tail → AreClientTails work other
@@ -77,11 +80,11 @@ ListPlansByIssueAreBounded tree assigned work =
     → IsPrinted (IsServedBefore tree assigned work start) work start chain
     → IsBoundedByIssue tree assigned work k start chain
 
--- where no message follows another and releases do not fall, the list plan by arrival in the order of
+-- where no message awaits another and releases do not fall, the list plan by arrival in the order of
 -- issue is that in the order of the trace
 abbrev pub ByIssueIsByArrival : List Node → List ℕ → Work → Type 0
 ByIssueIsByArrival tree assigned work =
-    length assigned ≡ work.count → FollowsNone work
+    length assigned ≡ work.count → AwaitsNone work
     → ((i j : ℕ) → i < j → work.floor i ≤ work.floor j)
     → (k : ℕ) (start : ℕ → ℕ) → IsListPlanByIssue tree assigned arrival work k start
     ↔ IsListPlan (IsOrdered tree assigned) (IsTakenFirst arrival) work k start

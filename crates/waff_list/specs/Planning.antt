@@ -5,12 +5,12 @@ use Rattle.std.specs.List.Sorted.{IsPermutation}
 use Rattle.waff_assign.specs.Order.{affinity_of}
 use Rattle.waff_order.specs.Joined.{HaveJoined}
 use Rattle.waff_order.specs.Needs.{AreLists, needs_of}
-use Rattle.waff_plan.specs.Obeys.{FollowsNone}
-use Rattle.waff_plan.specs.Pending.{IsFollower}
+use Rattle.waff_plan.specs.Awaiting.{AreAwaiting}
+use Rattle.waff_plan.specs.Obeys.{AwaitsNone}
 use Rattle.waff_plan.specs.Timing.{start_of, work_of}
 use Rattle.waff_plan.specs.Work.{Work, IsNumber}
 use Rattle.waff_list.specs.Issuing.{AreIssues, AreJoining, AreNeedsByNumber, AreServed}
-use Rattle.waff_list.specs.Issuing.{IsIssuedNext}
+use Rattle.waff_list.specs.Issuing.{AreOpened, after_start}
 use Rattle.waff_list.specs.Placed.{Pending, Placed}
 use Rattle.waff_list.specs.Plannable.{IsKept, IsPlannedTo, Plannable}
 use Rattle.waff_waits.specs.Ready.{AreRanked, ranked_in}
@@ -62,9 +62,9 @@ abbrev pub AreKnown : Service → ℕ → List ℕ → List (List ℕ) → Type 
 AreKnown (ByNumber all) count issued needs = needs ≡ all.now
 AreKnown (ByIssue issues) count issued needs = AreJoined issues count issued needs
 
--- the service is one of messages with this work; where it is by number no message follows another
+-- the service is one of messages with this work; where it is by number no message awaits another
 abbrev pub Fits : Service → Work → Type 0
-Fits (ByNumber needs) work = (length needs.now ≡ work.count) × FollowsNone work × AreLists needs.now
+Fits (ByNumber needs) work = (length needs.now ≡ work.count) × AwaitsNone work × AreLists needs.now
 Fits (ByIssue issues) work = length issues.case.assigned.now ≡ work.count
 
 -- no message has been issued yet
@@ -99,8 +99,8 @@ pub record IsLearnt (service : Service) (work : Work) (issued : List ℕ) (needs
   pub others : (x : ℕ) → 1 ≤ x → x ≢ m → needs_of more x ≡ needs_of needs x
   pub enters : Enters old m (needs_of more m) new
 
--- what is kept of the messages that wait, and of those that run, where these messages are ready before
--- those that are kept so, and these are issued
+-- what is kept of the messages that wait, of those that run and of those that await others, where these
+-- messages are ready before those that are kept so, and these are issued
 pub record IsWaiting (task : Task) (p : Progress) (w : Waiting) (rest issued : List ℕ) (now : ℕ)
     : Type 0 where
   pub needs : List (List ℕ)
@@ -111,6 +111,7 @@ pub record IsWaiting (task : Task) (p : Progress) (w : Waiting) (rest issued : L
   pub ranked : AreRanked (priority_in task)
       ((order_by (basis_of w.service) (work_of task.timings.items)).key (start_of p.starts.items))
       w.ready
+  pub awaiting : AreAwaiting (work_of task.timings.items) p.order.items p.awaits
 
 -- while messages are issued: these issues are known, of messages that are still to be issued
 pub record AreIssuing (task : Task) (p : Progress) (w : Waiting) (issues : List (ℕ × ℕ)) (now : ℕ)
@@ -127,7 +128,8 @@ pub record AreStarting (task : Task) (p : Progress) (w : Waiting) (rest : List �
   pub issues : AreIssues (work_of task.timings.items) (start_of p.starts.items) now p.issues
   pub waiting : IsWaiting task p w rest issued now
 
--- message m starts at now on the least worker that is idle; what follows it has its issue
+-- message m starts at now on the least worker that is idle; those that await nothing more have their
+-- issues
 pub record IsStarted (work : Work) (m now : ℕ) (old new : Progress) : Type 0 where
   pub worker : ℕ
   pub idle : LeavesLeast old.idle worker new.idle
@@ -135,6 +137,7 @@ pub record IsStarted (work : Work) (m now : ℕ) (old new : Progress) : Type 0 w
   pub seats : new.seats.items ≡ slice_set old.seats.items (m - 1) worker
   pub order : new.order.items ≡ old.order.items ++ m ∷ []
   pub finishes : IsPermutation ((now + work.cost m, m) ∷ old.finishes) new.finishes
-  pub follower : ℕ
-  pub follows : IsFollower work work.count m follower
-  pub issues : IsIssuedNext work (start_of new.starts.items) follower old.issues new.issues
+  pub awaits : new.awaits ≡ after_start old.awaits m
+  pub opened : List (ℕ × ℕ)
+  pub are : AreOpened work (start_of new.starts.items) old.awaits m opened
+  pub issues : IsPermutation (opened ++ old.issues) new.issues

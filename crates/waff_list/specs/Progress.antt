@@ -3,7 +3,7 @@
 use Rattle.std.specs.Prelude.{◌≡◌, ◌≢◌, ℕ, ◌<◌, ◌≤◌, ◌⊎◌, List, length, All, AllPairs}
 use Rattle.std.specs.Prelude.{Contains}
 use Rattle.waff_assign.specs.Order.{Relation}
-use Rattle.waff_plan.specs.Work.{Work, IsNumber, finish_of, issue_of}
+use Rattle.waff_plan.specs.Work.{Work, IsNumber, finish_of, gap_of, issue_of}
 use Rattle.waff_plan.specs.Workers.{running}
 use Rattle.waff_plan.specs.Timing.{start_of}
 pub use Rattle.waff_plan.specs.Timetable.{work_of_messages}
@@ -11,7 +11,7 @@ use Rattle.waff_list.specs.ListRule.{IsReady}
 use Rattle.waff_list.specs.Placed.{Placed}
 use Rattle.waff_list.specs.Seating.{worker_of}
 use Rattle.waff_list.specs.Seats.{ComesBefore, IsSeated}
-use Rattle.waff_model.specs.declared.limits.TheConstants.{MAX_COST, MAX_RELEASE}
+use Rattle.waff_model.specs.declared.limits.TheConstants.{MAX_COST, MAX_RELEASE, MAX_THINK}
 use Rattle.waff_plan.specs.declared.due.TheConstants.{NEVER}
 
 -- the messages that are placed have started by now, and at now they are below the message turn; they
@@ -45,8 +45,9 @@ pub record IsProgressOf (before first : Relation) (work : Work) (workers : ℕ)
       (start_of placed.starts) (worker_of placed.seats) now turn end
   pub listed : IsOrderSoFar work (start_of placed.starts) now placed.order
 
--- each message runs at least one tick, and costs and releases are within the limits
+-- each message runs at least one tick, and costs, releases and gaps are within the limits
 pub record IsSmall (work : Work) : Type 0 where
   pub some_cost : (m : ℕ) → IsNumber work m → 1 ≤ work.cost m
   pub cost : (m : ℕ) → IsNumber work m → work.cost m ≤ MAX_COST
   pub floor : (m : ℕ) → IsNumber work m → work.floor m ≤ MAX_RELEASE
+  pub gap : (i m : ℕ) → IsNumber work m → gap_of work i m ≤ MAX_THINK

@@ -1,7 +1,7 @@
 -- Plans by a rule in either order of service.
-use Rattle.std.specs.Prelude.{◌≡◌, ◌≢◌, ℕ, length}
+use Rattle.std.specs.Prelude.{◌≡◌, ℕ, false, length}
+use Rattle.waff_model.specs.Versions.{has_clients}
 use Rattle.waff_model.specs.declared.message.Version.{Version}
-use Rattle.waff_model.specs.declared.message.Version.TheVariants.{V3}
 use Rattle.waff_assign.specs.Order.{Path}
 use Rattle.waff_order.specs.Needs.{AreLists, IsNeed}
 use Rattle.waff_plan.specs.Work.{Work}
@@ -18,7 +18,7 @@ use Rattle.waff_list.specs.declared.service.Service.TheVariants.{ByIssue, ByNumb
 -- the service is one of a trace of this version with so many messages
 abbrev pub IsServiceFor : Service → Version → ℕ → Type 0
 IsServiceFor (ByNumber needs) version count =
-    (length needs.now ≡ count) × AreLists needs.now × (version ≢ V3)
+    (length needs.now ≡ count) × AreLists needs.now × (has_clients version ≡ false)
 IsServiceFor (ByIssue issues) version count = length issues.case.assigned.now ≡ count
 
 -- the tails of messages: over their needs, or by their clients

@@ -5,7 +5,7 @@
 ghost use Rattle.std.specs.Prelude.{◌≡◌, ℕ, List, length};
 ghost use Rattle.waff_model.specs.Tree.{Node};
 ghost use Rattle.waff_assign.specs.Order.{IsOrdered, Path};
-ghost use Rattle.waff_plan.specs.Obeys.{FollowsEarlier};
+ghost use Rattle.waff_plan.specs.Obeys.{AwaitsEarlier};
 ghost use Rattle.waff_plan.specs.Work.{Work};
 ghost use Rattle.waff_order.specs.Needs.{IsNeed, AreNeeds};
 ghost use Rattle.waff_list.specs.Rules.{IsPlanBy};
@@ -17,7 +17,7 @@ ghost use Rattle.waff_list.specs.declared.rule.Rule.{Rule};
 /// its printed chain, and k - 1 times the cost of that chain.
 pub fn list_plans_are_within_bound()
     ensures { (tree : List Node) (assigned : List ℕ) (work : Work) → length assigned ≡ work.count
-        → FollowsEarlier work → BusyPlansAreWithinBound (IsOrdered tree assigned) work }
+        → AwaitsEarlier work → BusyPlansAreWithinBound (IsOrdered tree assigned) work }
 {}
 
 /// The plan by a rule over the paths through the needs of messages is the plan by that rule over

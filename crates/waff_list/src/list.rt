@@ -1,7 +1,7 @@
 //! The list plans of a trace, and the printed chain of one.
 
-ghost use Rattle.std.specs.Prelude.{◌≡◌, ◌≢◌, ◌<◌, length, All, IfOk};
-ghost use Rattle.waff_model.specs.declared.message.Version.TheVariants.{V3};
+ghost use Rattle.std.specs.Prelude.{◌≡◌, ◌<◌, true, false, length, All, IfOk};
+ghost use Rattle.waff_model.specs.Versions.{has_clients};
 ghost use Rattle.waff_assign.specs.Order.{Path};
 ghost use Rattle.waff_plan.specs.Bound.{IsWithinBound, IsWithinRatio, IsWithinTwice, IsWorkers};
 ghost use Rattle.waff_plan.specs.Chain.{IsChain, IsListed, IsPrinted, chain_cost, chain_release};
@@ -71,7 +71,7 @@ pub fn list_plan_by(
 ) -> Result<WorkerPlan, AllocError>
     requires lengths { length needs.now ≡ length trace.now.messages }
     requires workers { IsWorkers k }
-    requires earlier_version { trace.now.version ≢ V3 }
+    requires earlier_version { has_clients trace.now.version ≡ false }
     ensures version { IfOk result (λ made. made.plan.version ≡ trace.now.version) }
     ensures timings { IfOk result (λ made. made.plan.timings ≡ timings_of trace.now.messages) }
     ensures workers { IfOk result (λ made. made.workers ≡ k) }
@@ -96,7 +96,7 @@ pub fn list_plan(
 ) -> Result<WorkerPlan, AllocError>
     requires lengths { length needs.now ≡ length trace.now.messages }
     requires workers { IsWorkers k }
-    requires earlier_version { trace.now.version ≢ V3 }
+    requires earlier_version { has_clients trace.now.version ≡ false }
     ensures version { IfOk result (λ made. made.plan.version ≡ trace.now.version) }
     ensures timings { IfOk result (λ made. made.plan.timings ≡ timings_of trace.now.messages) }
     ensures workers { IfOk result (λ made. made.workers ≡ k) }
@@ -150,7 +150,7 @@ pub fn list_chain(
 ) -> Result<Chain, AllocError>
     requires lengths { length made.now.plan.timings ≡ length assigned.now }
     requires known { All (λ a. a < length tree.now) assigned.now }
-    requires served { made.now.plan.version ≡ V3
+    requires served { has_clients made.now.plan.version ≡ true
         → Obeys (served_in tree.now assigned.now made.now.plan)
         (work_in made.now.plan) (starts_in made.now.plan) }
     ensures printed { IfOk result (λ chain. IsPrinted

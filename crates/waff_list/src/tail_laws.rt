@@ -5,7 +5,7 @@
 ghost use Rattle.std.specs.Prelude.{◌≡◌, ℕ, ◌↔◌, List, length};
 ghost use Rattle.waff_model.specs.Tree.{Node};
 ghost use Rattle.waff_assign.specs.Order.{IsOrdered, Path};
-ghost use Rattle.waff_plan.specs.Obeys.{FollowsNone};
+ghost use Rattle.waff_plan.specs.Obeys.{AwaitsNone};
 ghost use Rattle.waff_plan.specs.Work.{Work};
 ghost use Rattle.waff_order.specs.Needs.{IsNeed, AreNeeds};
 ghost use Rattle.waff_list.specs.Tails.{AreTails, TailsAreOne, TailIsGreatestChain, TailsAreShared};
@@ -19,7 +19,7 @@ pub fn tails_are_one()
 /// The tail of a message, in ticks, is the greatest cost of a chain that begins with it.
 pub fn tail_is_greatest_chain()
     ensures { (tree : List Node) (assigned : List ℕ) (work : Work) → length assigned ≡ work.count
-        → FollowsNone work → TailIsGreatestChain (IsOrdered tree assigned) work }
+        → AwaitsNone work → TailIsGreatestChain (IsOrdered tree assigned) work }
 {}
 
 /// Pairs with the same paths have the same tails, in ticks: any two sets of pairs, each given as

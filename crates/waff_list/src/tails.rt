@@ -3,7 +3,7 @@
 ghost use Rattle.std.specs.Prelude.{◌≡◌, ◌≤◌, length, All, IfOk};
 ghost use Rattle.waff_model.specs.Numbers.{IsAmongFirst};
 ghost use Rattle.waff_model.specs.declared.limits.TheConstants.{MAX_MESSAGES};
-ghost use Rattle.waff_plan.specs.Obeys.{FollowsEarlier, FollowsOnce};
+ghost use Rattle.waff_plan.specs.Obeys.{AwaitsEarlier};
 ghost use Rattle.waff_plan.specs.Timing.{IsTiming, work_of};
 ghost use Rattle.waff_list.specs.Planning.{Fits};
 ghost use Rattle.waff_list.specs.Tails.{AreRaised, tail_of};
@@ -24,8 +24,7 @@ pub(crate) fn tails(
 ) -> Result<Vec<u64>, AllocError>
     requires few { length timings.now ≤ MAX_MESSAGES }
     requires small { All IsTiming timings.now }
-    requires earlier { FollowsEarlier (work_of timings.now) }
-    requires once { FollowsOnce (work_of timings.now) }
+    requires earlier { AwaitsEarlier (work_of timings.now) }
     requires fits { Fits service.now (work_of timings.now) }
     ensures count { IfOk result (λ tails. length tails.items ≡ length timings.now) }
     ensures tails { IfOk result (λ tails.

@@ -5,8 +5,7 @@ ghost use Rattle.std.specs.Option.{ForSome};
 ghost use Rattle.waff_model.specs.Numbers.{IsAmongFirst};
 ghost use Rattle.waff_model.specs.declared.limits.TheConstants.{MAX_MESSAGES};
 ghost use Rattle.waff_plan.specs.Bound.{IsWorkers};
-ghost use Rattle.waff_plan.specs.Obeys.{FollowsEarlier};
-ghost use Rattle.waff_plan.specs.Pending.{AreFollowers, IsFollower};
+ghost use Rattle.waff_plan.specs.Obeys.{AwaitsEarlier};
 ghost use Rattle.waff_plan.specs.Timing.{IsTiming, start_of, timing_of, work_of};
 ghost use Rattle.waff_plan.specs.Work.{issue_of};
 ghost use Rattle.waff_plan.specs.Timetable.{AreTimings, timings_of, work_of_messages};
@@ -17,23 +16,17 @@ use crate::service::Service;
 use crate::tails::tails;
 use std::alloc::{AllocError, Global};
 use waff_model::Trace;
-use waff_plan::followers::followers;
 use waff_plan::{Timing, timings};
 
-/// The messages of a trace, which follows each, their tails where the rule asks for them, and the
-/// number of workers.
+/// The messages of a trace, their tails where the rule asks for them, and the number of workers.
 #[derive(Drop)]
 pub(crate) struct Task {
     pub timings: Vec<Timing>,
-    followers: Vec<u32>,
     pub tails: Option<Vec<u64>>,
     pub workers: u32,
     ghost few: { length timings.items ≤ MAX_MESSAGES },
     ghost small: { All IsTiming timings.items },
-    ghost earlier: { FollowsEarlier (work_of timings.items) },
-    ghost followers_count: { length followers.items ≡ length timings.items },
-    ghost following: { AreFollowers
-        (work_of timings.items) (length timings.items) followers.items },
+    ghost earlier: { AwaitsEarlier (work_of timings.items) },
     ghost tails_count: { ForSome tails (λ tails. length tails.items ≡ length timings.items) },
     ghost some: { IsWorkers workers },
 }
@@ -61,14 +54,12 @@ impl Task {
             (work_of_messages trace.now.messages) (priority_in task)) }
     {
         let timings = timings(alloc, trace)?;
-        let followers = followers(alloc, timings.as_slice())?;
         let tails = match rule {
             Rule::Arrival => None,
             Rule::Longest => Some(tails(alloc, service, timings.as_slice())?),
         };
         Ok(Task {
             timings,
-            followers,
             tails,
             workers: k,
         })
@@ -101,23 +92,6 @@ impl Task {
         u64::from(self.timings[m as usize - 1].cost)
     }
 
-    /// The message that message `m` follows, 0 where it follows none.
-    pub fn follows(&self, m: u32) -> u32
-        requires number { IsAmongFirst (length self.now.timings.items) m }
-        ensures { result ≡ (timing_of self.now.timings.items m).follows }
-    {
-        self.timings[m as usize - 1].follows
-    }
-
-    /// The message that follows message `m`, 0 where none does.
-    pub fn follower(&self, m: u32) -> u32
-        requires number { IsAmongFirst (length self.now.timings.items) m }
-        ensures { IsFollower
-            (work_of self.now.timings.items) (length self.now.timings.items) m result }
-    {
-        self.followers[m as usize - 1]
-    }
-
     /// The tick at which message `m` is issued, where the one that it follows starts as listed.
     pub fn issue(&self, starts: &[u64], m: u32) -> u64
         requires { HasIssue self.now.timings.items starts.now m }
@@ -140,11 +114,9 @@ impl Task {
     {
         let Task {
             timings,
-            followers,
             tails,
             workers: _,
         } = self;
-        drop(followers);
         drop(tails);
         timings
     }

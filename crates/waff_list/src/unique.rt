@@ -4,7 +4,7 @@
 ghost use Rattle.std.specs.Prelude.{◌≡◌, ℕ, ◌<◌, ◌↔◌, List, length};
 ghost use Rattle.waff_model.specs.Tree.{Node};
 ghost use Rattle.waff_assign.specs.Order.{IsOrdered, Path};
-ghost use Rattle.waff_plan.specs.Obeys.{FollowsEarlier};
+ghost use Rattle.waff_plan.specs.Obeys.{AwaitsEarlier};
 ghost use Rattle.waff_plan.specs.Work.{Work};
 ghost use Rattle.waff_order.specs.Needs.{IsNeed, AreNeeds};
 ghost use Rattle.waff_list.specs.ListRule.{IsTakenFirst, IsListPlan, arrival};
@@ -22,15 +22,15 @@ pub fn one_is_taken_first()
 /// needs, whichever needs they are, and by each of the rules.
 pub fn list_plan_is_one()
     ensures pairs { (tree : List Node) (assigned : List ℕ) (work : Work)
-        (priority other : ℕ → ℕ) → length assigned ≡ work.count → FollowsEarlier work
+        (priority other : ℕ → ℕ) → length assigned ≡ work.count → AwaitsEarlier work
         → EachRuns work → ListPlanIsOne
         (IsOrdered tree assigned) (IsTakenFirst priority) (IsTakenFirst other) work }
     ensures needs { (tree : List Node) (assigned : List ℕ) (needs : List (List ℕ)) (work : Work)
-        (priority other : ℕ → ℕ) → length assigned ≡ work.count → FollowsEarlier work
+        (priority other : ℕ → ℕ) → length assigned ≡ work.count → AwaitsEarlier work
         → EachRuns work → AreNeeds tree assigned needs → ListPlanIsOne
         (Path (IsNeed needs)) (IsTakenFirst priority) (IsTakenFirst other) work }
     ensures rules { (tree : List Node) (assigned : List ℕ) (work : Work)
-        → length assigned ≡ work.count → FollowsEarlier work
+        → length assigned ≡ work.count → AwaitsEarlier work
         → EachRuns work → RulePlanIsOne (IsOrdered tree assigned) work }
 {}
 

@@ -149,7 +149,7 @@ loop-m-preserved c =
             each_moved (IsAmongFirst task.workers) (c.loop-m.progress.idle ++ map run old) (h.manned first) (c.push.new.self ++ map run new)
             (manned_less run c.loop-m.progress.idle old pair new c.push.new.self c.in-Some.ensures.1.rest pushed);
         service = told.service ∙ h.service;
-        progress = ap (λ (p : Progress). let q : Progress = record { starts = p.starts; seats = p.seats; order = p.order; idle = c.push.new.self; finishes = c.pop_by.new.self; issues = p.issues } in q) h.progress;
+        progress = ap (λ (p : Progress). let q : Progress = record { starts = p.starts; seats = p.seats; order = p.order; idle = c.push.new.self; finishes = c.pop_by.new.self; issues = p.issues; awaits = p.awaits } in q) h.progress;
       };
     }
 
@@ -159,8 +159,8 @@ returns-clause-woken c = λ now tick later planned kept.
     let h = c.loop-m.invariant.woken in
     let p = c.loop-m.progress in
     let task = c.args.task.now in
-    let q : Progress = record { starts = p.starts; seats = p.seats; order = p.order; idle = p.idle; finishes = c.pop_by.new.self; issues = p.issues } in
+    let q : Progress = record { starts = p.starts; seats = p.seats; order = p.order; idle = p.idle; finishes = c.pop_by.new.self; issues = p.issues; awaits = p.awaits } in
     issuing_after task c.args.progress.now c.args.waiting.now now tick _ _ planned kept c.args.next later c.requires.next q c.loop-m.waiting
     (subst (λ (xs : List (ℕ × ℕ)). AreWoken task c.args.next c.args.progress.now c.args.waiting.now
-    (record { starts = p.starts; seats = p.seats; order = p.order; idle = p.idle; finishes = xs; issues = p.issues }) c.loop-m.waiting) (sym none.0) h)
+    (record { starts = p.starts; seats = p.seats; order = p.order; idle = p.idle; finishes = xs; issues = p.issues; awaits = p.awaits }) c.loop-m.waiting) (sym none.0) h)
     (subst (λ (xs : List (ℕ × ℕ)). All (λ (r : ℕ × ℕ). c.args.next < r.0) xs) (sym none.0) none.1)

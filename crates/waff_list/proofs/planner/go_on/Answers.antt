@@ -8,9 +8,9 @@ use Rattle.waff_list.specs.Placed.{Placed}
 use Rattle.waff_list.specs.Plannable.{IsMade, IsPlannedTo, Plannable}
 use Rattle.waff_list.specs.Planning.{IsPlanned, placed_in, plannable_of}
 use Rattle.waff_list.specs.Telling.{Basis, basis_of}
-use Rattle.waff_list.proofs.ClientTasks.{small_of, thinks_of}
+use Rattle.waff_list.proofs.ClientTasks.{small_of}
 use Rattle.waff_list.proofs.IssueEvents.{IsInTime, in_time_early, in_time_next, in_time_none, last_event, next_event, steps_after, steps_fewer}
-use Rattle.waff_list.proofs.IssuePlans.{follows_messages}
+use Rattle.waff_list.proofs.IssuePlans.{awaits_messages}
 use Rattle.waff_list.proofs.Keeping.{made_in_order}
 use Rattle.waff_list.proofs.Making.{progress_advance}
 use Rattle.waff_list.proofs.Steps.{order_of_waiting}
@@ -68,7 +68,7 @@ loop-started-smaller c =
     let work = work_of task.timings.items in
     let p = c.start_all.new.progress in
     let starts = ap (λ (x : Placed). x.starts) c.in_ok-finish_all.ensures.placed in
-    let fewer = steps_fewer work (follows_messages work task.earlier) (small_of task) (thinks_of task) c.issue_all.new.progress.starts.items p.starts.items c.loop-started.now c.next-next.result
+    let fewer = steps_fewer work (awaits_messages work task.earlier) (small_of task) c.issue_all.new.progress.starts.items p.starts.items c.loop-started.now c.next-next.result
     (placed_before s) c.in_ok-start_all.ensures.stay (filled s).settled.placed p.finishes c.in_ok-start_all.ensures.kept.waiting.kept.finishes (next_is (goal.at.loop-started-smaller c).Else-next) in
     subst (λ (xs : List ℕ). steps_after work (start_of c.finish_all.new.progress.starts.items) c.next-next.result < steps_after work (start_of xs) c.loop-started.now) (starts_kept s)
     (subst (λ (xs : List ℕ). steps_after work (start_of xs) c.next-next.result < steps_after work (start_of c.issue_all.new.progress.starts.items) c.loop-started.now) (sym starts) fewer)
@@ -88,7 +88,7 @@ loop-started-preserved c =
     let starts = ap (λ (x : Placed). x.starts) finish.placed in
     let plan : Plannable = plannable_of task (basis_of c.start_all.new.waiting.service) in
     let order = order_of_waiting task p c.start_all.new.waiting _ kept.issued now kept.waiting in
-    let advanced = progress_advance (plan.order.before start) (TakesFirst plan.priority (plan.order.key start)) work plan.workers (order.numbers start) (follows_messages work task.earlier)
+    let advanced = progress_advance (plan.order.before start) (TakesFirst plan.priority (plan.order.key start)) work plan.workers (order.numbers start) (awaits_messages work task.earlier)
     (placed_in p) now next p.finishes kept.waiting.kept.finishes event.later event.tick event.first event.issues (filled s) in
     record {
       basis = finish.basis ∙ c.in_ok-start_all.ensures.basis ∙ c.in_ok-issue_all.ensures.basis ∙ c.loop-started.invariant.basis;
@@ -96,7 +96,7 @@ loop-started-preserved c =
           (subst (λ (x : Placed). IsPlannedTo plan x next 1 next) (sym finish.placed) advanced);
       kept = finish.woken now (early s) event.later (filled s) kept;
       time = subst (λ (xs : List ℕ). IsInTime work (start_of xs) next) (sym starts)
-          (in_time_next work (follows_messages work task.earlier) (small_of task) (thinks_of task) c.issue_all.new.progress.starts.items p.starts.items now next (placed_before s)
+          (in_time_next work (awaits_messages work task.earlier) (small_of task) c.issue_all.new.progress.starts.items p.starts.items now next (placed_before s)
           c.in_ok-start_all.ensures.stay (filled s).settled.placed p.finishes kept.waiting.kept.finishes event (in_time s));
     }
 
@@ -112,7 +112,7 @@ returns-then-next c =
     let last = last_event work (start_of p.starts.items) p.finishes p.issues now c.next-next.result (omega (arith, soon)) kept.waiting.kept.finishes kept.issues
     c.next-next.ensures.finishes c.next-next.ensures.issues c.if-next.true in
     let order = order_of_waiting task p c.start_all.new.waiting _ kept.issued now kept.waiting in
-    let made = made_in_order (plannable_of task (basis_of c.start_all.new.waiting.service)) order task.earlier (placed_in p) now task.some.from soon (small_of task) (thinks_of task) (filled s)
+    let made = made_in_order (plannable_of task (basis_of c.start_all.new.waiting.service)) order task.earlier (placed_in p) now task.some.from soon (small_of task) (filled s)
     p.finishes kept.waiting.kept.finishes last in
     record {
       made = subst (λ (b : Basis). IsMade (plannable_of task b) (placed_in p)) (c.in_ok-start_all.ensures.basis ∙ c.in_ok-issue_all.ensures.basis ∙ c.loop-started.invariant.basis) made;

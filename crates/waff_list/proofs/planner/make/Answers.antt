@@ -10,7 +10,7 @@ go_on-done-requires-clause-begun c =
     let made = c.in_ok-progress.ensures in
     let none = c.in_ok-waiting.ensures in
     begun_at_first task c.in_ok-progress.progress c.in_ok-waiting.waiting none.waits (subst (λ s. Fits s (work_of task.timings.items)) (sym none.service) c.requires.fits)
-    made.starts made.order made.finishes made.idle made.issues made.seats
+    made.starts made.order made.finishes made.idle made.issues made.awaits made.seats
 
 pub go_on-done-requires-clause-kept : goal.go_on-done-requires-clause-kept
 go_on-done-requires-clause-kept c =
@@ -18,4 +18,4 @@ go_on-done-requires-clause-kept c =
     let made = c.in_ok-progress.ensures in
     let none = c.in_ok-waiting.ensures in
     issuing_at_first task c.in_ok-progress.progress c.in_ok-waiting.waiting none.waits (subst (λ s. Fits s (work_of task.timings.items)) (sym none.service) c.requires.fits)
-    made.starts made.order made.finishes made.idle made.issues
+    made.starts made.order made.finishes made.idle made.issues made.awaits

@@ -5,7 +5,7 @@ use Rattle.std.proofs.lemmas.List.Elements.{All-cons, All-nil, Contains-get_or}
 use Rattle.waff_model.specs.Numbers.{IsAmongFirst}
 use Rattle.waff_plan.specs.Timing.{timing_of, work_of}
 use Rattle.waff_plan.specs.declared.timing.Timing.{Timing}
-use Rattle.waff_plan.proofs.FollowLemmas.{followed_none, followed_some}
+use Rattle.waff_plan.proofs.FollowLemmas.{awaits_it, awaits_none, awaits_one}
 use Rattle.waff_order.specs.Needs.{needs_of}
 use Rattle.waff_list.specs.Tails.{AreRaised, tail_of}
 use Rattle.waff_list.specs.Planning.{Fits}
@@ -52,8 +52,9 @@ pub raise-requires-in-ByIssue-2 : goal.raise-requires-in-ByIssue-2
 raise-requires-in-ByIssue-2 c =
     let timings = c.args.timings.now in
     let m = c.loop-m.m - 1 in
-    let f = (timing_of timings m).follows in
-    let before = c.requires.earlier f m (followed_some f c.if-timing-eq0.false) in
+    let timing = timing_of timings m in
+    let f = timing.follows in
+    let before = c.requires.earlier f m (awaits_it f timing.think c.if-timing-eq0.false) in
     let long : length c.deref_mut-in-ByIssue-2.result.now ≡ length c.loop-m.tails.items
     = ap length c.deref_mut-in-ByIssue-2.ensures.value ∙ length-set c.loop-m.tails.items (m - 1) (c.index.result.now + c.from.result) in
     All-cons (IsAmongFirst (length c.deref_mut-in-ByIssue-2.result.now)) f []
@@ -79,8 +80,9 @@ loop-m-preserved-then-timing-eq0 c =
     let count = c.loop-m.invariant.count in
     let from : 1 ≤ m = omega arith in
     let to : m ≤ length timings = omega (arith, c.loop-m.auto.m) in
+    let timing = timing_of timings m in
     let these = subst (λ s. HoldsThese s work m [] tail tail) (sym c.in-ByIssue.is)
-    (holds_none c.in-ByIssue.field-0 work m tail tail (followed_none (timing_of timings m).follows c.if-timing-eq0.true)) in
+    (holds_none c.in-ByIssue.field-0 work m tail tail (awaits_none timing.follows timing.think c.if-timing-eq0.true)) in
     record {
       count = length-set old (m - 1) tail ∙ count;
       after = tails_step c.args.service.now timings c.requires.small c.requires.earlier c.requires.fits old (set old (m - 1) tail) [] m tail tail count
@@ -120,7 +122,8 @@ loop-m-preserved c =
     let old = c.loop-m.tails.items in
     let new = c.raise-in-ByIssue-2.new.tails in
     let m = c.loop-m.m - 1 in
-    let f = (timing_of timings m).follows in
+    let timing = timing_of timings m in
+    let f = timing.follows in
     let tail = c.index.result.now + c.from.result in
     let most = c.from-in-ByIssue-2.result + tail in
     let count = c.loop-m.invariant.count in
@@ -128,7 +131,7 @@ loop-m-preserved c =
     let to : m ≤ length timings = omega (arith, c.loop-m.auto.m) in
     let these = subst (λ s. HoldsThese s work m (f ∷ []) tail most) (sym c.in-ByIssue-2.is)
     (subst (λ t. HoldsThese (ByIssue c.in-ByIssue-2.field-0) work m (f ∷ []) tail (t + tail)) (sym c.from-in-ByIssue-2.ensures)
-    (holds_followed c.in-ByIssue-2.field-0 work m tail f (followed_some f c.if-timing-eq0.false))) in
+    (holds_followed c.in-ByIssue-2.field-0 work m tail f timing.think (awaits_one f timing.think c.if-timing-eq0.false))) in
     let raised = subst (λ xs. AreRaised xs (f ∷ []) most new) c.deref_mut-in-ByIssue-2.ensures.value c.raise-in-ByIssue-2.ensures in
     let long : length new ≡ length old = raised.count ∙ length-set old (m - 1) tail in
     let is = refilled c.loop-m.tails.len new (set old (m - 1) tail) (long ∙ sym c.loop-m.tails.ok.0) (length-set old (m - 1) tail ∙ sym c.loop-m.tails.ok.0) in
@@ -143,4 +146,4 @@ loop-m-preserved c =
 pub returns-clause-tails : goal.returns-clause-tails
 returns-clause-tails c =
     let none : c.loop-m.m - 1 ≡ 0 = omega (arith, c.loop-m-test.false) in
-    tails_by c.args.service.now (work_of c.args.timings.now) c.requires.fits c.requires.earlier c.requires.once (tail_of c.loop-m.tails.items) (rw none at c.loop-m.invariant.after)
+    tails_by c.args.service.now (work_of c.args.timings.now) c.requires.fits c.requires.earlier (tail_of c.loop-m.tails.items) (rw none at c.loop-m.invariant.after)

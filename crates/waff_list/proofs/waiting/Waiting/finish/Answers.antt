@@ -11,7 +11,8 @@ use Rattle.waff_waits.specs.Waits.{IsFree, WhoWaits, waiting_for}
 use Rattle.waff_list.specs.Tasks.{HasIssue}
 use Rattle.waff_list.specs.Telling.{key_in, priority_in}
 use Rattle.waff_list.specs.declared.service.Service.{Service}
-use Rattle.waff_list.proofs.LettingGo.{going_bound, going_free, going_next, it_waited, ranked_more}
+use Rattle.waff_waits.proofs.LettingGo.{going_bound, going_next, it_waited}
+use Rattle.waff_list.proofs.LettingGo.{going_ranked, ranked_more}
 use Rattle.waff_list.proofs.waiting.Waiting.finish.Goals as goal
 use Rattle.waff_list.proofs.waiting.Waiting.finish.Goals.{In-Some}
 
@@ -63,7 +64,7 @@ loop-waiter-preserved-in-Continue-1 c =
       going = (goes.rest, pushed.waits ∙ next.0, next.1);
       ready = λ issued order among each.
           subst (λ (u : WhoWaits). AreEach (IsFree issued u) (order ++ ranked_in c.push.new.self.ready)) (sym pushed.waits)
-          (going_free w lw new m d h.going.0 (number f) (h.going.1, h.going.2) goes issued order c.loop-waiter.self.ready (among d (waited f)) (h.ready issued order among each)
+          (going_ranked w lw new m d h.going.0 (number f) (h.going.1, h.going.2) goes issued order c.loop-waiter.self.ready (among d (waited f)) (h.ready issued order among each)
           c.push.new.self.ready (priority d, (key c.loop-waiter.self.service d, d)) refl pushed.ready (c.in-Some.ensures.none.0 c.if-is_free.true));
       ranked = λ are. ranked_more priority (key c.args.self.now.service) d c.loop-waiter.self.ready c.push.new.self.ready
           (subst (λ (s : Service). IsPermutation ((priority d, (key s d, d)) ∷ c.loop-waiter.self.ready) c.push.new.self.ready) h.service pushed.ready) (h.ranked are);
@@ -84,7 +85,7 @@ loop-waiter-preserved c =
       service = h.service;
       going = (goes.rest, next.0, next.1);
       ready = λ issued order among each.
-          going_bound w lw new m d h.going.0 (number f) (h.going.1, h.going.2) goes issued order c.loop-waiter.self.ready (among d (waited f)) (h.ready issued order among each)
+          going_bound w lw new m d h.going.0 (number f) (h.going.1, h.going.2) goes issued order (ranked_in c.loop-waiter.self.ready) (among d (waited f)) (h.ready issued order among each)
           (λ none. false≢true (sym c.if-is_free.false ∙ c.in-Some.ensures.none.1 none));
       ranked = h.ranked;
     }
