@@ -1,10 +1,10 @@
--- The messages that follow none, one message after another.
-use Rattle.std.proofs.Common.{◌≡◌, ℕ, ◌-◌, ◌≤◌, inl, inr, List, [], ◌∷◌, Contains, Some, None, sym, ◌∙◌, ap, subst, arith}
+-- The messages that await none, one message after another.
+use Rattle.std.proofs.Common.{◌≡◌, ℕ, ◌-◌, ◌≤◌, inl, inr, List, [], ◌∷◌, Contains, sym, ◌∙◌, ap, subst, arith}
 use Rattle.std.specs.List.Sorted.{IsPermutation}
 use Rattle.std.proofs.lemmas.Bool.{cases_eq}
 use Rattle.std.proofs.lemmas.List.Sorted.{Contains-permutation, IsPermutation-sym}
-use Rattle.std.proofs.lemmas.Option.{none-some}
-use Rattle.waff_plan.specs.Work.{Work}
+use Rattle.waff_plan.specs.Work.{Work, IsAwaited}
+use Rattle.waff_plan.proofs.FollowLemmas.{none_awaited}
 use Rattle.waff_line.specs.Lined.{AreFirstDue}
 use Rattle.waff_line.proofs.Lining.{contains_first, contains_more, contains_rest_of}
 
@@ -17,20 +17,20 @@ due_none work = record {
 }
 
 module _ (work : Work) (m : ℕ) (from : 1 ≤ m) (old : List (ℕ × ℕ)) (are : AreFirstDue work (m - 1) old) where
-  -- one more message, which follows another
-  pub due_same : (f : ℕ) → work.follows m ≡ Some f → AreFirstDue work m old
-  due_same f follow = record {
+  -- one more message, which awaits another
+  pub due_same : (f : ℕ) → IsAwaited (work.awaits m) f → AreFirstDue work m old
+  due_same f awaited = record {
     number = λ r there. let number = are.number r there in let to = number.to in record { from = number.from; to = omega (arith, to) };
     floor = are.floor;
     alone = are.alone;
     all = λ n number none. elim (cases_eq n m) [
-      | inl here ↦ absurd (none-some f (sym none ∙ ap work.follows here ∙ follow))
+      | inl here ↦ absurd (none_awaited (work.awaits m) f (sym (ap work.awaits here) ∙ none) awaited)
       | inr other ↦ let to = number.to in are.all n (record { from = number.from; to = omega (arith, to, other) }) none
     ];
   }
 
-  -- one more message, which follows none
-  pub due_put : (new : List (ℕ × ℕ)) (floor : ℕ) → floor ≡ work.floor m → work.follows m ≡ None → IsPermutation ((floor, m) ∷ old) new
+  -- one more message, which awaits none
+  pub due_put : (new : List (ℕ × ℕ)) (floor : ℕ) → floor ≡ work.floor m → work.awaits m ≡ [] → IsPermutation ((floor, m) ∷ old) new
       → AreFirstDue work m new
   due_put new floor is none put =
       let one : ℕ × ℕ = (floor, m) in
@@ -47,7 +47,7 @@ module _ (work : Work) (m : ℕ) (from : 1 ≤ m) (old : List (ℕ × ℕ)) (are
         ];
         alone = λ r there. elim (back r there) [
           | inl was ↦ are.alone r was
-          | inr here ↦ ap (λ (x : ℕ × ℕ). work.follows x.1) here ∙ none
+          | inr here ↦ ap (λ (x : ℕ × ℕ). work.awaits x.1) here ∙ none
         ];
         all = λ n number alone. elim (cases_eq n m) [
           | inl here ↦

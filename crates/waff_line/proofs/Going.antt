@@ -1,20 +1,20 @@
 -- Each event of the code is one of the machine.
-use Rattle.std.proofs.Common.{◌≡◌, ℕ, ◌-◌, ◌≤◌, List, [], ◌∷◌, ◌++◌, length, map, replicate, get_or, refl, ap, sym, ◌∙◌, subst}
+use Rattle.std.proofs.Common.{◌≡◌, ℕ, ◌-◌, ◌≤◌, true, false, List, [], ◌∷◌, ◌++◌, length, map, replicate, set, refl, ap, sym, ◌∙◌, subst}
 use Rattle.std.proofs.lemmas.List.{map_push}
 use Rattle.waff_model.specs.Tree.{Node}
 use Rattle.waff_model.specs.declared.preorder.Span.{Span}
 use Rattle.waff_assign.specs.Order.{affinity_of}
 use Rattle.waff_order.specs.Joined.{Joined, HaveJoined}
+use Rattle.waff_waits.specs.Waits.{IsFree, WhoWaits, waiting_for}
 use Rattle.waff_plan.specs.Timing.{work_of}
-use Rattle.waff_plan.specs.declared.timing.Timing.{Timing}
-use Rattle.waff_line.specs.Lined.{IsFollowedBy}
-use Rattle.waff_line.specs.Machine.{Course, State, IsRunning, MayBegin, Reaches, begun_on, ended_at, finish_at, no_turn, opening, told}
+use Rattle.waff_line.specs.Lined.{AreOpened, issue_noted}
+use Rattle.waff_line.specs.Machine.{Course, State, IsRunning, MayBegin, Reaches, begun_on, ended_at, no_turn, opening, told}
 use Rattle.waff_line.specs.Queued.{IsQueue, course_of}
 use Rattle.waff_line.specs.Scaled.{scaled}
 use Rattle.waff_line.specs.declared.event.Event.TheVariants.{Begin, End, Tell}
 use Rattle.waff_line.specs.declared.queue.Queue.{Queue}
-use Rattle.waff_line.proofs.Keeping.{course_same, is_course, lined_ended, queue_begun, queue_told, reaches_more, running_number}
-use Rattle.waff_line.proofs.Scaling.{follower_scaled}
+use Rattle.waff_line.proofs.Keeping.{course_same, is_course, lined_ended, queue_begun, queue_told, reaches_more}
+use Rattle.waff_line.proofs.Opening.{awaiting_ended}
 use Rattle.waff_line.proofs.Sound.{sound_reached}
 
 -- the invariant of a line
@@ -47,31 +47,22 @@ module _ (q : Queue) (n : State × ℕ) (h : Stands q n) where
 
 -- the queue when a message has ended
 pub queue_ended : (q : Queue) (n : State × ℕ) → IsQueue q n.1 n.0 → 1 ≤ n.1 → Reaches (course_of q n.1) n.0
-    → (m now : ℕ) → IsRunning n.0 m → (timings : List Timing) (nexts : List ℕ) (finish : ℕ) (due : List (ℕ × ℕ))
-    → timings ≡ q.timings.items → nexts ≡ q.nexts.items → finish ≡ finish_at n.0 m now
-    → IsFollowedBy (scaled q.tick (work_of timings)) finish (get_or nexts (m - 1) 0) q.due due
-    → (v : State × ℕ) → ◌≡◌ {A = State × ℕ} v (ended_at n.0 m now, n.1)
-    → IsQueue (record { case = q.case; timings = q.timings; tick = q.tick; nexts = q.nexts; order = q.order; due = due; is_over = q.is_over }) v.1 v.0
-queue_ended q n h staffed reached m now running timings nexts finish due timings_is nexts_is finish_is followed v is =
+    → (m now : ℕ) → IsRunning n.0 m → q.is_over ≡ false → (awaits : WhoWaits) (due : List (ℕ × ℕ))
+    → awaits ≡ record { awaited = set q.awaits.awaited (m - 1) []; finished = set q.awaits.finished (m - 1) true }
+    → AreOpened (issue_noted (scaled q.tick (work_of q.timings.items)) (ended_at n.0 m now)) (IsFree (waiting_for q.awaits m) awaits) q.due due
+    → IsQueue (record { case = q.case; timings = q.timings; tick = q.tick; awaits = awaits; order = q.order; due = due; is_over = false }) n.1 (ended_at n.0 m now)
+queue_ended q n h staffed reached m now running going awaits due gone opened =
     let course = course_of q n.1 in
     let right = is_course q n.1 n.0 h staffed in
     let sound = sound_reached course right n.0 reached in
-    let number = running_number q n.1 n.0 h staffed reached m running in
-    let next = get_or q.nexts.items (m - 1) 0 in
-    let follows : IsFollowedBy (scaled q.tick (work_of q.timings.items)) (finish_at n.0 m now) next q.due due
-    = subst (λ (ts : List Timing). IsFollowedBy (scaled q.tick (work_of ts)) (finish_at n.0 m now) next q.due due) timings_is
-    (subst (λ (ns : List ℕ). IsFollowedBy (scaled q.tick (work_of timings)) (finish_at n.0 m now) (get_or ns (m - 1) 0) q.due due) nexts_is
-    (subst (λ (f : ℕ). IsFollowedBy (scaled q.tick (work_of timings)) f (get_or nexts (m - 1) 0) q.due due) finish_is followed)) in
-    let after : Queue = record { case = q.case; timings = q.timings; tick = q.tick; nexts = q.nexts; order = q.order; due = due; is_over = q.is_over } in
-    subst (λ (p : State × ℕ). IsQueue after p.1 p.0) (sym is) (record {
+    record {
       many = h.many;
       timings = h.timings;
-      nexts = h.nexts;
-      next_count = h.next_count;
-      lined = λ going.
-          lined_ended course n.0 right m now sound running q.order.spans.now q.order.joining q.order.messages.items next q.due due
-          (follower_scaled q.tick (work_of q.timings.items) (length q.timings.items) m next (h.nexts m number)) follows (h.lined going);
-    })
+      awaiting = λ _. awaiting_ended course right n.0 m now sound running q.awaits awaits (h.awaiting going) gone;
+      lined = λ _.
+          lined_ended course n.0 right m now sound running q.order.spans.now q.order.joining q.order.messages.items
+          q.awaits awaits (h.awaiting going) gone q.due due opened (h.lined going);
+    }
 
 -- the order of a case by number
 pub first_more : (tree : List Node) (spans after : List Span) (assigned items more : List ℕ) (m a : ℕ) (joining : Joined)

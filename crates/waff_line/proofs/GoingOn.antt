@@ -1,8 +1,8 @@
 -- A run goes on until all messages have ended.
-use Rattle.std.proofs.Common.{◌≡◌, ℕ, ◌+◌, ◌⊎◌, inl, inr, max, Option, Some, None, refl, sym, ◌∙◌, subst, arith}
+use Rattle.std.proofs.Common.{ℕ, ◌+◌, ◌⊎◌, inl, inr, max, List, [], ◌∷◌, refl, sym, ◌∙◌, subst, arith}
 use Rattle.std.proofs.lemmas.Bool.{cases_Bool, cases_lt, false≢true}
-use Rattle.std.proofs.lemmas.Option.{none-some, same_Some}
 use Rattle.waff_plan.specs.Order.{ComesBefore}
+use Rattle.waff_plan.specs.Work.{Await, IsAwaited}
 use Rattle.waff_plan.proofs.Places.{keyed_not_itself, keyed_on}
 use Rattle.waff_line.specs.Laws.{AreAllEnded, BeginsWhenTold, NeverStuck}
 use Rattle.waff_line.specs.Machine.{Course, IsCourse, State, HasBegun, HasEnded, IsIssued, IsRunning, issue_in, key_in, turn_of}
@@ -29,15 +29,19 @@ runs_or_not s n = elim (begun_or_waits s n) [
   ]
 ]
 
+-- those that are awaited have all ended, or not
+ended_or_not : (s : State) (awaits : List Await) → ((i : ℕ) → IsAwaited awaits i → HasEnded s i) ⊎ (((i : ℕ) → IsAwaited awaits i → HasEnded s i) → ⊥)
+ended_or_not s [] = inl (λ i never. absurd never)
+ended_or_not s (a ∷ rest) = elim (cases_Bool (turn_of s a.message).ended) [
+  | inr runs ↦ inr (λ all. false≢true (sym runs ∙ all a.message (inl refl)))
+  | inl ended ↦ elim (ended_or_not s rest) [
+    | inl all ↦ inl (λ i awaited. elim awaited [ inl same ↦ subst (HasEnded s) same ended | inr more ↦ all i more ])
+    | inr not ↦ inr (λ all. not (λ i more. all i (inr more)))
+  ]
+]
+
 issued_or_not : (course : Course) (s : State) (n : ℕ) → IsIssued course s n ⊎ (IsIssued course s n → ⊥)
-issued_or_not course s n = cases (course.work.follows n) refl
-  where
-    cases : (o : Option ℕ) → course.work.follows n ≡ o → IsIssued course s n ⊎ (IsIssued course s n → ⊥)
-    cases None none = inl (λ f follow. absurd (none-some f (sym none ∙ follow)))
-    cases (Some g) follows = elim (cases_Bool (turn_of s g).ended) [
-      | inl ended ↦ inl (λ f follow. subst (HasEnded s) (same_Some g f (sym follows ∙ follow)) ended)
-      | inr runs ↦ inr (λ issued. false≢true (sym runs ∙ issued g follows))
-    ]
+issued_or_not course s n = ended_or_not s (course.work.awaits n)
 
 -- a message that waits and is issued
 record IsDue (course : Course) (s : State) (n : ℕ) : Type 0 where
@@ -60,8 +64,8 @@ module _ (course : Course) (is : IsCourse course) (s : State) (none : (n : ℕ) 
 
   -- the first message that waits is issued
   first_issued : (m : ℕ) → IsFirstOf (λ n. ¬ HasBegun s n) (λ n. 0) course.work.count m → IsIssued course s m
-  first_issued m is_first f follow =
-      let earlier = is.earlier f m follow in
+  first_issued m is_first f awaited =
+      let earlier = is.earlier f m awaited in
       elim (begun_or_waits s f) [
         | inl begun ↦ ended_all f begun
         | inr waits ↦ elim (is_first.first f (record { from = earlier.from; to = omega (arith, earlier.earlier, earlier.to) }) waits) [

@@ -1,91 +1,84 @@
 -- What the code does with a queue keeps it.
-use Rattle.std.proofs.Common.{◌≡◌, ◌≢◌, ℕ, ◌+◌, ◌-◌, ◌<◌, ◌≤◌, inl, inr, false, true, List, [], ◌∷◌, ◌++◌, length, map, Contains, refl, ap, sym, ◌∙◌, subst, arith}
+use Rattle.std.proofs.Common.{◌≡◌, ℕ, ◌+◌, ◌-◌, ◌<◌, ◌≤◌, inl, inr, false, true, List, [], ◌∷◌, ◌++◌, length, map, set, Contains, refl, ap, sym, ◌∙◌, subst, arith}
 use Rattle.std.specs.List.{range_with_len}
-use Rattle.std.proofs.lemmas.Bool.{false≢true}
+use Rattle.std.proofs.lemmas.Bool.{cases_Bool, cond-false, cond-true}
 use Rattle.std.proofs.lemmas.List.{length-map, map-id}
 use Rattle.std.proofs.lemmas.List.FromFn.{map-range_with_len_more}
 use Rattle.std.proofs.lemmas.List.Elements.{Contains-get_or}
 use Rattle.std.proofs.lemmas.List.Sorted.{Contains-permutation, IsPermutation-sym}
 use Rattle.waff_model.specs.Versions.{has_clients}
 use Rattle.waff_model.specs.declared.message.Version.{Version}
-use Rattle.waff_model.specs.declared.message.Version.TheVariants.{V1, V2, V3}
 use Rattle.waff_model.specs.declared.preorder.Span.{Span}
 use Rattle.waff_assign.specs.Order.{affinity_of}
 use Rattle.waff_assign.specs.declared.case.Case.{Case}
 use Rattle.waff_order.specs.Joined.{Joined, HaveJoined}
 use Rattle.waff_order.specs.Needs.{IsNeed}
+use Rattle.waff_waits.specs.Waits.{IsFree, WhoWaits, waiting_for}
 use Rattle.waff_plan.specs.Due.{LeavesDue}
-use Rattle.waff_plan.specs.Obeys.{FollowsNone}
-use Rattle.waff_plan.specs.Pending.{IsFollower}
+use Rattle.waff_plan.specs.Obeys.{AwaitsNone}
 use Rattle.waff_plan.specs.Timing.{work_of}
 use Rattle.waff_plan.specs.Work.{IsAmongFirst}
 use Rattle.waff_plan.specs.declared.timing.Timing.{Timing}
-use Rattle.waff_line.specs.Lined.{course_in, AreFirstDue, IsFollowedBy, IsLined, first_joined, latecomers, served_at}
-use Rattle.waff_line.specs.Machine.{Course, IsCourse, State, HasEnded, IsRunning, MayBegin, Reaches, Runs, Steps, begun_on, ended_at, finish_at, issue_in, measured, opening, start_in, told}
+use Rattle.waff_line.specs.Lined.{course_in, AreFirstDue, AreOpened, IsAwaiting, IsLined, first_joined, issue_noted, latecomers, served_at}
+use Rattle.waff_line.specs.Machine.{Course, IsCourse, State, HasEnded, IsRunning, MayBegin, Reaches, Runs, Steps, begun_on, ended_at, issue_in, measured, opening, start_in, told}
 use Rattle.waff_line.specs.Noted.{CanBegin}
 use Rattle.waff_line.specs.declared.event.Event.{Event}
+use Rattle.waff_line.specs.Scaled.{scaled}
 use Rattle.waff_line.specs.Queued.{IsQueue, course_of, value_by}
 use Rattle.waff_line.specs.declared.queue.Queue.{Queue}
 use Rattle.waff_line.proofs.Lining.{clear_at, contains_first, lined_more}
-use Rattle.waff_line.proofs.Queueing.{by_version, comes_by, issue_alone, key_by_issue, latecomers_all, latecomers_none, lined_begun, lined_ended_by_issue, lined_ended_by_number, lined_opening_by_issue, lined_opening_by_number, lined_told}
-use Rattle.waff_line.proofs.Scaling.{earlier_scaled}
+use Rattle.waff_line.proofs.Issuing.{comes_by}
+use Rattle.waff_line.proofs.Opening.{awaiting_begun, awaiting_told}
+use Rattle.waff_line.proofs.Queueing.{issue_alone, key_by_issue, latecomers_all, latecomers_none, lined_begun, lined_ended_by_issue, lined_ended_by_number, lined_opening_by_issue, lined_opening_by_number, lined_told}
+use Rattle.waff_line.proofs.Scaling.{earlier_scaled, none_scaled}
 use Rattle.waff_line.proofs.Sound.{Sound, sound_reached}
 use Rattle.waff_line.proofs.Turns.{begun_number}
 
-pub clients_third : (version : Version) → has_clients version ≡ true → version ≡ V3
-clients_third V1 has = absurd (false≢true has)
-clients_third V2 has = absurd (false≢true has)
-clients_third V3 has = refl
+pub first_by_issue : (version : Version) (count : ℕ) → has_clients version ≡ true → first_joined version count ≡ []
+first_by_issue version count has = cond-true (has_clients version) [] (range_with_len 1 count) has
 
-pub no_clients : (version : Version) → has_clients version ≡ false → version ≢ V3
-no_clients version has is = false≢true (sym has ∙ ap has_clients is)
-
-pub first_by_issue : (version : Version) (count : ℕ) → version ≡ V3 → first_joined version count ≡ []
-first_by_issue version count is = ap (λ v. first_joined v count) is
-
-pub first_by_number : (version : Version) (count : ℕ) → version ≢ V3 → first_joined version count ≡ range_with_len 1 count
-first_by_number V1 count other = refl
-first_by_number V2 count other = refl
-first_by_number V3 count other = absurd (other refl)
+pub first_by_number : (version : Version) (count : ℕ) → has_clients version ≡ false → first_joined version count ≡ range_with_len 1 count
+first_by_number version count none = cond-false (has_clients version) [] (range_with_len 1 count) none
 
 -- when a run begins
 pub lined_opening : (course : Course) (spans : List Span) (joining : Joined) (messages : List ℕ) (due : List (ℕ × ℕ))
-    → (course.version ≢ V3 → FollowsNone course.work) → course.work.count ≡ length course.assigned
+    → (has_clients course.version ≡ false → AwaitsNone course.work) → course.work.count ≡ length course.assigned
     → messages ≡ first_joined course.version (length course.assigned)
     → HaveJoined course.tree spans (map (affinity_of course.assigned) messages) joining → AreFirstDue course.work course.work.count due
     → IsLined course (opening course) spans joining messages (latecomers course.version due)
-lined_opening course spans joining messages due alone many are have first = elim (by_version course.version) [
-  | inl third ↦
-      let none : messages ≡ [] = are ∙ first_by_issue course.version (length course.assigned) third in
-      subst (λ ms. IsLined course (opening course) spans joining ms (latecomers course.version due)) (sym none)
-      (subst (λ ws. IsLined course (opening course) spans joining [] ws) (sym (latecomers_all course.version due third))
-      (lined_opening_by_issue course spans joining third due first
-      (subst (λ ms. HaveJoined course.tree spans (map (affinity_of course.assigned) ms) joining) none have)))
-  | inr other ↦
+lined_opening course spans joining messages due alone many are have first = elim (cases_Bool (has_clients course.version)) [
+  | inl has ↦
+      let empty : messages ≡ [] = are ∙ first_by_issue course.version (length course.assigned) has in
+      subst (λ ms. IsLined course (opening course) spans joining ms (latecomers course.version due)) (sym empty)
+      (subst (λ ws. IsLined course (opening course) spans joining [] ws) (sym (latecomers_all course.version due has))
+      (lined_opening_by_issue course spans joining has due first
+      (subst (λ ms. HaveJoined course.tree spans (map (affinity_of course.assigned) ms) joining) empty have)))
+  | inr none ↦
       let all : messages ≡ range_with_len 1 course.work.count
-      = are ∙ first_by_number course.version (length course.assigned) other ∙ ap (λ n. range_with_len 1 n) (sym many) in
+      = are ∙ first_by_number course.version (length course.assigned) none ∙ ap (λ n. range_with_len 1 n) (sym many) in
       subst (λ ms. IsLined course (opening course) spans joining ms (latecomers course.version due)) (sym all)
-      (subst (λ ws. IsLined course (opening course) spans joining (range_with_len 1 course.work.count) ws) (sym (latecomers_none course.version due other))
-      (lined_opening_by_number course spans joining other (alone other)
+      (subst (λ ws. IsLined course (opening course) spans joining (range_with_len 1 course.work.count) ws) (sym (latecomers_none course.version due none))
+      (lined_opening_by_number course spans joining none (alone none)
       (subst (λ ms. HaveJoined course.tree spans (map (affinity_of course.assigned) ms) joining) all have)))
 ]
 
 -- when a message ends
 pub lined_ended : (course : Course) (s : State) (is : IsCourse course) (m now : ℕ) (sound : Sound course s) (running : IsRunning s m)
-    (spans : List Span) (joining : Joined) (messages : List ℕ) (next : ℕ) (old new : List (ℕ × ℕ))
-    → IsFollower course.work course.work.count m next → IsFollowedBy course.work (finish_at s m now) next old new
+    (spans : List Span) (joining : Joined) (messages : List ℕ) (w after : WhoWaits) (awaiting : IsAwaiting course.work s w)
+    (gone : after ≡ record { awaited = set w.awaited (m - 1) []; finished = set w.finished (m - 1) true }) (old new : List (ℕ × ℕ))
+    → AreOpened (issue_noted course.work (ended_at s m now)) (IsFree (waiting_for w m) after) old new
     → IsLined course s spans joining messages (latecomers course.version old)
     → IsLined course (ended_at s m now) spans joining messages (latecomers course.version new)
-lined_ended course s is m now sound running spans joining messages next old new follower followed h = elim (by_version course.version) [
-  | inl third ↦
-      subst (λ ws. IsLined course (ended_at s m now) spans joining messages ws) (sym (latecomers_all course.version new third))
+lined_ended course s is m now sound running spans joining messages w after awaiting gone old new opened h = elim (cases_Bool (has_clients course.version)) [
+  | inl has ↦
+      subst (λ ws. IsLined course (ended_at s m now) spans joining messages ws) (sym (latecomers_all course.version new has))
       (lined_ended_by_issue course s spans joining messages old
-      (subst (λ ws. IsLined course s spans joining messages ws) (latecomers_all course.version old third) h)
-      is m now sound running third next new follower followed)
-  | inr other ↦
+      (subst (λ ws. IsLined course s spans joining messages ws) (latecomers_all course.version old has) h)
+      is m now sound running has w after awaiting gone new opened)
+  | inr none ↦
       subst (λ ws. IsLined course (ended_at s m now) spans joining messages ws)
-      (latecomers_none course.version old other ∙ sym (latecomers_none course.version new other))
-      (lined_ended_by_number course s spans joining messages (latecomers course.version old) h is m now sound running other)
+      (latecomers_none course.version old none ∙ sym (latecomers_none course.version new none))
+      (lined_ended_by_number course s spans joining messages (latecomers course.version old) h is m now sound running none)
 ]
 
 -- one more event
@@ -99,30 +92,30 @@ reaches_more course s event t (events, runs) step = (events ++ event ∷ [], run
 
 module _ (q : Queue) (workers : ℕ) (s : State) (h : IsQueue q workers s) where
   pub is_course : 1 ≤ workers → IsCourse (course_of q workers)
-  is_course staffed = record { earlier = earlier_scaled q.tick (work_of q.timings.items) h.timings.earlier; alone = h.timings.alone; many = h.many; staffed = staffed }
+  is_course staffed = record { earlier = earlier_scaled q.tick (work_of q.timings.items) h.timings.earlier; alone = λ without. none_scaled q.tick (work_of q.timings.items) (h.timings.alone without); many = h.many; staffed = staffed }
 
   pub queue_told : (now : ℕ) → IsQueue q workers (told s now)
   queue_told now = record {
     many = h.many;
     timings = h.timings;
-    nexts = h.nexts;
-    next_count = h.next_count;
+    awaiting = λ going. awaiting_told (scaled q.tick (work_of q.timings.items)) s q.awaits (h.awaiting going) now;
     lined = λ going.
         lined_told (course_of q workers) s q.order.spans.now q.order.joining q.order.messages.items (latecomers q.case.trace.now.version q.due)
         (h.lined going) now;
   }
 
+  sound_begins : (x m : ℕ) → Reaches (course_of q workers) s → MayBegin (course_of q workers) s x m → Sound (course_of q workers) s
+  sound_begins x m reached may =
+      sound_reached (course_of q workers) (is_course (omega (arith, may.worker.from, may.worker.to))) s reached
+
   pub queue_begun : (x m : ℕ) → Reaches (course_of q workers) s → MayBegin (course_of q workers) s x m → IsQueue q workers (begun_on s x m)
   queue_begun x m reached may = record {
     many = h.many;
     timings = h.timings;
-    nexts = h.nexts;
-    next_count = h.next_count;
+    awaiting = λ going. awaiting_begun (scaled q.tick (work_of q.timings.items)) s q.awaits (h.awaiting going) (course_of q workers) x m (sound_begins x m reached may) may;
     lined = λ goes.
-        let from = may.worker.from in
-        let to = may.worker.to in
         lined_begun (course_of q workers) s q.order.spans.now q.order.joining q.order.messages.items (latecomers q.case.trace.now.version q.due)
-        (h.lined goes) x m (sound_reached (course_of q workers) (is_course (omega (arith, from, to))) s reached) may;
+        (h.lined goes) x m (sound_begins x m reached may) may;
   }
 
   -- the message at a place that has joined
@@ -165,18 +158,18 @@ module _ (q : Queue) (workers : ℕ) (s : State) (h : IsQueue q workers s) where
             waits = can.waits;
             issued = (line.each m joins).1;
             come = comes_by q.case.trace.now.version (issue_in course s m) s.clock
-                (λ third. let come = line.come third m joins in let key = key_by_issue course s m third in omega (arith, come, key))
-                (λ other.
-                let alone = issue_alone (measured course s) (start_in s) m (h.timings.alone other m) in
+                (λ has. let come = line.come has m joins in let key = key_by_issue course s m has in omega (arith, come, key))
+                (λ none.
+                let alone = issue_alone (measured course s) (start_in s) m (is.alone none m) in
                 omega (arith, alone, early));
             clear = clear_at course s q.order.spans.now q.order.joining messages (latecomers q.case.trace.now.version q.due) line
                 (sound_reached course is s reached) place number done;
           }
 
     -- the first of those that are due joins
-    module _ (third : q.case.trace.now.version ≡ V3) (r : ℕ × ℕ) (rest : List (ℕ × ℕ)) (leaves : LeavesDue q.due r rest) where
+    module _ (has : has_clients q.case.trace.now.version ≡ true) (r : ℕ × ℕ) (rest : List (ℕ × ℕ)) (leaves : LeavesDue q.due r rest) where
       line_due : IsLined course s q.order.spans.now q.order.joining messages q.due
-      line_due = subst (λ ws. IsLined course s q.order.spans.now q.order.joining messages ws) (latecomers_all q.case.trace.now.version q.due third) line
+      line_due = subst (λ ws. IsLined course s q.order.spans.now q.order.joining messages ws) (latecomers_all q.case.trace.now.version q.due has) line
 
       pub joins_number : IsAmongFirst (length q.case.assigned.now) r.1
       joins_number =
@@ -192,7 +185,7 @@ module _ (q : Queue) (workers : ℕ) (s : State) (h : IsQueue q workers s) where
           (map (affinity_of q.case.assigned.now) messages ++ affinity_of q.case.assigned.now r.1 ∷ []) after
           → IsLined course s q.order.spans.now after (messages ++ r.1 ∷ []) (latecomers q.case.trace.now.version rest)
       joins_more passed after have =
-          subst (λ ws. IsLined course s q.order.spans.now after (messages ++ r.1 ∷ []) ws) (sym (latecomers_all q.case.trace.now.version rest third))
+          subst (λ ws. IsLined course s q.order.spans.now after (messages ++ r.1 ∷ []) ws) (sym (latecomers_all q.case.trace.now.version rest has))
           (lined_more course s q.order.spans.now q.order.joining messages q.due line_due r rest leaves passed after have)
 
 -- what a queue is of goes by its parts

@@ -6,6 +6,7 @@ mod Obeying
 mod Lining
 mod Noting
 mod FirstDue
+mod Opening
 mod Queueing
 mod Keeping
 mod Going

@@ -143,7 +143,7 @@ module _ (course : Course) (s : State) (spans : List Span) (joining : Joined) (m
       → Contains waits r ⊎ (IsKeyed course t r × ((i : ℕ) → Contains messages i → IsDueFirst (key_in course s i, i) r)))
       (kept : (r : ℕ × ℕ) → Contains waits r → Contains later_waits r) where
     still_issued : (i : ℕ) → IsIssued course s i → IsIssued course t i
-    still_issued i issued f follow = let ended = issued f follow in ap (λ (turn : Turn). turn.ended) (same f ended) ∙ ended
+    still_issued i issued f awaited = let ended = issued f awaited in ap (λ (turn : Turn). turn.ended) (same f ended) ∙ ended
 
     same_key : (i : ℕ) → IsIssued course s i → key_in course t i ≡ key_in course s i
     same_key i issued = key_kept course s t same i issued

@@ -4,7 +4,7 @@ use Rattle.std.proofs.lemmas.Bool.{cases_eq, cases_lt, false≢true}
 use Rattle.std.proofs.lemmas.List.{get_or-map, get_or-replicate, get_or-set_other, get_or-set_same, get_or_past, length-map, length-replicate, length-set, map-set}
 use Rattle.waff_plan.specs.Work.{IsAmongFirst}
 use Rattle.waff_plan.specs.declared.due.TheConstants.{NEVER}
-use Rattle.waff_line.specs.Machine.{State, Turn, HasBegun, IsRunning, begun_on, ended_at, ended_turn, finish_at, no_turn, start_in, turn_of}
+use Rattle.waff_line.specs.Machine.{State, Turn, HasBegun, IsRunning, begun_on, ended_at, ended_turn, finish_at, finish_in, no_turn, start_in, turn_of, with_clock}
 use Rattle.waff_line.specs.Noted.{AreNoted, CanBegin, shown, state_of}
 use Rattle.waff_line.specs.declared.turn.Turn.{Turn as NotedTurn}
 use Rattle.waff_line.proofs.Turns.{begun_number, turn_other, turn_same}
@@ -78,7 +78,18 @@ module _ (s : State) (runs : List ℕ) (h : AreNoted s runs) where
             let early = h.early n (omega (arith, begun, worker)) in
             omega (arith, start, early)
       ];
+      past = λ n. elim (cases_eq n m) [
+        | inl is ↦ omega (arith, ap (λ k. finish_in (begun_on s x m) k) is, ap (λ (turn : Turn). turn.finish) self_turn)
+        | inr unlike ↦ omega (arith, ap (λ (turn : Turn). turn.finish) (other_turn n unlike), h.past n)
+      ];
     }
+
+  pub noted_later : (clock : ℕ) → s.clock ≤ clock → AreNoted (with_clock s clock) runs
+  noted_later clock later = record {
+    own = λ n running. h.own n (record { begun = running.begun; runs = running.runs });
+    early = h.early;
+    past = λ n. omega (arith, h.past n, later);
+  }
 
   module _ (m now : ℕ) (running : IsRunning s m) where
     -- there is the worker of a message that runs
@@ -131,6 +142,10 @@ module _ (s : State) (runs : List ℕ) (h : AreNoted s runs) where
             let early = h.early n (omega (arith, begun, worker)) in
             omega (arith, start, early)
       ];
+      past = λ n. elim (cases_eq n m) [
+        | inl is ↦ omega (arith, ap (λ k. finish_in (ended_at s m now) k) is, ap (λ (turn : Turn). turn.finish) self_ended)
+        | inr unlike ↦ omega (arith, ap (λ (turn : Turn). turn.finish) (other_ended n unlike), h.past n)
+      ];
     }
 
 -- a turn that is written at its place
@@ -149,15 +164,15 @@ map_replicate (suc n) turn seen is = ap (λ x. x ∷ map shown (replicate n turn
 abbrev fresh : ℕ → State
 fresh count = record { clock = 0; turns = replicate count no_turn }
 
-none_begun : (count n : ℕ) → HasBegun (fresh count) n → ⊥
-none_begun count zero begun = omega (arith, begun)
-none_begun count (suc k) begun = elim (cases_lt k count) [
-  | inl within ↦ let none = ap (λ (turn : Turn). turn.worker) (get_or-replicate count k no_turn no_turn within) in omega (arith, begun, none)
-  | inr past ↦
-      let long = length-replicate count no_turn in
-      let none = ap (λ (turn : Turn). turn.worker) (get_or_past (replicate count no_turn) k no_turn (omega (arith, past, long))) in
-      omega (arith, begun, none)
+none_turn : (count n : ℕ) → turn_of (fresh count) n ≡ no_turn
+none_turn count zero = refl
+none_turn count (suc k) = elim (cases_lt k count) [
+  | inl within ↦ get_or-replicate count k no_turn no_turn within
+  | inr past ↦ let long = length-replicate count no_turn in get_or_past (replicate count no_turn) k no_turn (omega (arith, past, long))
 ]
+
+none_begun : (count n : ℕ) → HasBegun (fresh count) n → ⊥
+none_begun count n begun = omega (arith, begun, ap (λ (turn : Turn). turn.worker) (none_turn count n))
 
 module _ (count workers : ℕ) (turns : List NotedTurn) (runs : List ℕ) (turn : NotedTurn) (seen : shown turn ≡ no_turn)
     (all : turns ≡ replicate count turn) where
@@ -168,6 +183,7 @@ module _ (count workers : ℕ) (turns : List NotedTurn) (runs : List ℕ) (turn 
   none_noted = subst (λ ts. AreNoted (record { clock = 0; turns = ts }) runs) (sym fresh_turns) (record {
     own = λ n running. absurd (none_begun count n running.begun);
     early = λ n begun. absurd (none_begun count n begun);
+    past = λ n. omega (arith, ap (λ (turn : Turn). turn.finish) (none_turn count n));
   })
 
   pub none_shown : length runs ≡ workers → ◌≡◌ {A = State × ℕ} (state_of 0 turns, length runs) (fresh count, workers)

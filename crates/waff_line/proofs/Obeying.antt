@@ -18,8 +18,8 @@ finish_is course s n well = omega (arith, well.ran)
 
 -- where all have ended, all are issued
 all_issued : (course : Course) → IsCourse course → (s : State) → AreAllEnded course s → (n : ℕ) → IsIssued course s n
-all_issued course is s all n f follow =
-    let earlier = is.earlier f n follow in
+all_issued course is s all n f awaited =
+    let earlier = is.earlier f n awaited in
     all f (record { from = earlier.from; to = omega (arith, earlier.earlier, earlier.to) })
 
 pub run_obeys : (course : Course) → IsCourse course → RunObeys course

@@ -1,10 +1,9 @@
 -- What is kept by each event of a run.
-use Rattle.std.proofs.Common.{◌≡◌, ◌≢◌, ℕ, ◌<◌, ◌≤◌, ◌⊎◌, inl, inr, false, List, [], ◌∷◌, length, Option, Some, None, refl, ap, sym, ◌∙◌, subst, arith}
+use Rattle.std.proofs.Common.{◌≡◌, ◌≢◌, ℕ, ◌<◌, ◌≤◌, ◌⊎◌, inl, inr, false, List, [], ◌∷◌, length, ap, sym, ◌∙◌, subst, arith}
 use Rattle.std.proofs.Math.ListN.{length-replicate}
 use Rattle.std.proofs.lemmas.Bool.{cases_Bool, cases_eq, false≢true}
-use Rattle.std.proofs.lemmas.Option.{none-some, same_Some}
 use Rattle.waff_plan.specs.Order.{Serves}
-use Rattle.waff_plan.specs.Work.{IsAmongFirst, finish_of}
+use Rattle.waff_plan.specs.Work.{Await, IsAmongFirst, IsAwaited, finish_of}
 use Rattle.waff_line.specs.Machine.{Course, IsCourse, State, Turn, HasBegun, HasCome, HasEnded, IsIssued, IsRunning, MayBegin, Reaches, Runs, Steps, begun_on, ended_at, ended_turn, finish_at, finish_in, issue_in, key_in, measured, no_turn, opening, start_in, told, turn_of}
 use Rattle.waff_line.specs.declared.event.Event.{Event}
 use Rattle.waff_line.specs.declared.event.Event.TheVariants.{Tell, Begin, End}
@@ -51,19 +50,25 @@ ended_or_runs s n begun = elim (cases_Bool (turn_of s n).ended) [
 pub runs_on : (s : State) (n : ℕ) → IsRunning s n → HasEnded s n → ⊥
 runs_on s n running ended = false≢true (sym running.runs ∙ ended)
 
--- what is issued after a change of the turn of message m was issued before it, or follows message m
+awaited_or_not : (awaits : List Await) (m : ℕ) → IsAwaited awaits m ⊎ (IsAwaited awaits m → ⊥)
+awaited_or_not [] m = inr (λ never. never)
+awaited_or_not (a ∷ rest) m = elim (cases_eq a.message m) [
+  | inl same ↦ inl (inl same)
+  | inr other ↦ elim (awaited_or_not rest m) [
+    | inl more ↦ inl (inr more)
+    | inr none ↦ inr (λ awaited. elim awaited [ inl same ↦ other same | inr more ↦ none more ])
+  ]
+]
+
+-- what is issued after a change of the turn of message m was issued before it, or awaits message m
 pub issued_before : (course : Course) (s t : State) (m : ℕ) → ((n : ℕ) → n ≢ m → turn_of t n ≡ turn_of s n) → (i : ℕ) → IsIssued course t i
-    → IsIssued course s i ⊎ (course.work.follows i ≡ Some m)
-issued_before course s t m others i issued = cases (course.work.follows i) refl
-  where
-    cases : (o : Option ℕ) → course.work.follows i ≡ o → IsIssued course s i ⊎ (course.work.follows i ≡ Some m)
-    cases None none = inl (λ f follow. absurd (none-some f (sym none ∙ follow)))
-    cases (Some g) follows = elim (cases_eq g m) [
-      | inl same ↦ inr (follows ∙ ap Some same)
-      | inr other ↦ inl (λ f follow.
-          let is : f ≡ g = same_Some f g (sym follow ∙ follows) in
-          sym (ap (λ (turn : Turn). turn.ended) (others f (λ at. other (sym is ∙ at)))) ∙ issued f follow)
-    ]
+    → IsIssued course s i ⊎ IsAwaited (course.work.awaits i) m
+issued_before course s t m others i issued = elim (awaited_or_not (course.work.awaits i) m) [
+  | inl awaited ↦ inr awaited
+  | inr none ↦ inl (λ f awaited.
+      let other : f ≢ m = λ same. none (subst (IsAwaited (course.work.awaits i)) same awaited) in
+      sym (ap (λ (turn : Turn). turn.ended) (others f other)) ∙ issued f awaited)
+]
 
 -- a message that has begun stays well begun where its turn has the worker and the start that it had, what has ended keeps its turn, and
 -- of what is issued later nothing is served before it
@@ -74,7 +79,7 @@ begun_still : (course : Course) (s t : State) (n : ℕ) → ((f : ℕ) → HasEn
 begun_still course s t n same later worker start new well = record {
   worker = subst (IsAmongFirst course.workers) (sym worker) well.worker;
   early = omega (arith, later, start, well.early);
-  issued = λ f follow. let ended = well.issued f follow in ap (λ (turn : Turn). turn.ended) (same f ended) ∙ ended;
+  issued = λ f awaited. let ended = well.issued f awaited in ap (λ (turn : Turn). turn.ended) (same f ended) ∙ ended;
   come = subst (λ (p : ℕ × ℕ). HasCome course.version p.0 p.1) (λ k. (sym (issue_kept course s t same n well.issued) k, sym start k)) well.come;
   after = λ i issued served.
       let was = new i issued served in
@@ -121,14 +126,14 @@ module _ (course : Course) (s : State) (x m : ℕ) (sound : Sound course s) (may
   pub none_issued : (i : ℕ) → IsIssued course (begun_on s x m) i → IsIssued course s i
   none_issued i issued = elim (issued_before course s (begun_on s x m) m begun_other i issued) [
     | inl was ↦ was
-    | inr follow ↦ absurd (unended (issued m follow))
+    | inr awaited ↦ absurd (unended (issued m awaited))
   ]
 
   begins_well : HasBegunWell course (begun_on s x m) m
   begins_well = record {
     worker = subst (IsAmongFirst course.workers) (sym (ap (λ (turn : Turn). turn.worker) begun_self)) may.worker;
     early = omega (arith, ap (λ (turn : Turn). turn.start) begun_self);
-    issued = λ f follow. let ended = may.issued f follow in ap (λ (turn : Turn). turn.ended) (begun_same f ended) ∙ ended;
+    issued = λ f awaited. let ended = may.issued f awaited in ap (λ (turn : Turn). turn.ended) (begun_same f ended) ∙ ended;
     come = subst (λ (p : ℕ × ℕ). HasCome course.version p.0 p.1)
         (λ k. (sym (issue_kept course s (begun_on s x m) begun_same m may.issued) k, sym (ap (λ (turn : Turn). turn.start) begun_self) k)) may.come;
     after = λ i issued served.
@@ -234,12 +239,12 @@ module _ (course : Course) (is : IsCourse course) (s : State) (m now : ℕ) (sou
       → IsIssued course s i
   late n well i issued served = elim (issued_before course s (ended_at s m now) m ended_other i issued) [
     | inl was ↦ was
-    | inr follow ↦
+    | inr awaited ↦
         let come : HasCome course.version (issue_in course (ended_at s m now) n) (start_in s n)
         = subst (λ issue. HasCome course.version issue (start_in s n)) (sym (issue_kept course s (ended_at s m now) ended_same n well.issued)) well.come in
         let finish : start_in s n ≤ finish_of (measured course (ended_at s m now)) (start_in (ended_at s m now)) m
         = omega (arith, well.early, ap (λ (turn : Turn). turn.start) ended_self, ap (λ (turn : Turn). turn.finish) ended_self) in
-        absurd (issued_late course.version (measured course (ended_at s m now)) (start_in (ended_at s m now)) i n m (start_in s n) is.alone follow come finish served.precedes)
+        absurd (issued_late course.version (measured course (ended_at s m now)) (start_in (ended_at s m now)) i n m (start_in s n) is.alone awaited come finish served.precedes)
   ]
 
   pub sound_ended : Sound course (ended_at s m now)

@@ -1,13 +1,13 @@
 -- The machine of a run: it is told the time, messages begin on workers, and they end. Which of them have
 -- been issued, and in which order, follows from what it has noted. Times are nanoseconds from the beginning of the run.
-use Rattle.std.specs.Prelude.{◌≡◌, ◌≢◌, ℕ, zero, suc, ◌+◌, ◌-◌, ◌<◌, ◌≤◌, max, Bool, true, false}
-use Rattle.std.specs.Prelude.{List, [], ◌∷◌, length, Some, replicate, slice_index_or, slice_set}
+use Rattle.std.specs.Prelude.{◌≡◌, ◌≢◌, ℕ, zero, suc, ◌+◌, ◌-◌, ◌≤◌, max, Bool, true, false}
+use Rattle.std.specs.Prelude.{List, [], ◌∷◌, length, replicate, slice_index_or, slice_set, if◌then◌else◌}
 use Rattle.waff_model.specs.Tree.{Node}
+use Rattle.waff_model.specs.Versions.{has_clients}
 use Rattle.waff_model.specs.declared.message.Version.{Version}
-use Rattle.waff_model.specs.declared.message.Version.TheVariants.{V1, V2, V3}
-use Rattle.waff_plan.specs.Obeys.{FollowsEarlier, FollowsNone}
+use Rattle.waff_plan.specs.Obeys.{AwaitsEarlier, AwaitsNone}
 use Rattle.waff_plan.specs.Order.{Serves, key_of}
-use Rattle.waff_plan.specs.Work.{Work, IsAmongFirst, issue_of}
+use Rattle.waff_plan.specs.Work.{Work, IsAmongFirst, IsAwaited, issue_of}
 use Rattle.waff_line.specs.declared.event.Event.{Event}
 use Rattle.waff_line.specs.declared.event.Event.TheVariants.{Tell, Begin, End}
 
@@ -20,11 +20,11 @@ pub record Course : Type 0 where
   pub work : Work
   pub workers : ℕ
 
--- each message follows an earlier one or none, before the third version none; each has an affinity; and
--- there is a worker
+-- each message awaits earlier ones or none, without clients none; each has an affinity; and there is a
+-- worker
 pub record IsCourse (course : Course) : Type 0 where
-  pub earlier : FollowsEarlier course.work
-  pub alone : course.version ≢ V3 → FollowsNone course.work
+  pub earlier : AwaitsEarlier course.work
+  pub alone : has_clients course.version ≡ false → AwaitsNone course.work
   pub many : course.work.count ≡ length course.assigned
   pub staffed : 1 ≤ course.workers
 
@@ -80,8 +80,7 @@ measured course s = record {
   count = course.work.count;
   cost = λ n. finish_in s n - start_in s n;
   floor = course.work.floor;
-  follows = course.work.follows;
-  think = course.work.think;
+  awaits = course.work.awaits;
 }
 
 -- the time at which message n is issued
@@ -92,16 +91,14 @@ issue_in course s = issue_of (measured course s) (start_in s)
 abbrev pub key_in : Course → State → ℕ → ℕ
 key_in course s = key_of course.version (measured course s) (start_in s)
 
--- message n is issued: the one that it follows has ended, or it follows none
+-- message n is issued: those that it awaits have ended, or it awaits none
 abbrev pub IsIssued : Course → State → ℕ → Type 0
-IsIssued course s n = (i : ℕ) → course.work.follows n ≡ Some i → HasEnded s i
+IsIssued course s n = (i : ℕ) → IsAwaited (course.work.awaits n) i → HasEnded s i
 
--- the issue has come at this time. Where what is issued first is served first, that is a nanosecond after the
--- issue, when all that are issued then are known
+-- the issue has come at this time. Of messages of clients, where what is issued first is served first, that is a
+-- nanosecond after the issue, when all that are issued then are known
 abbrev pub HasCome : Version → ℕ → ℕ → Type 0
-HasCome V1 issue clock = issue ≤ clock
-HasCome V2 issue clock = issue ≤ clock
-HasCome V3 issue clock = issue < clock
+HasCome version issue clock = issue + (if has_clients version then 1 else 0) ≤ clock
 
 -- of the messages that are issued each one that is served before message n has ended
 abbrev pub IsClear : Course → State → ℕ → Type 0

@@ -1,11 +1,10 @@
 -- The queue of a line: what is issued next, what has joined, and what it is of.
 use Rattle.std.specs.Prelude.{◌≡◌, ℕ, false, List, length}
 use Rattle.waff_assign.specs.declared.case.Case.{Case}
-use Rattle.waff_plan.specs.Pending.{AreFollowers}
 use Rattle.waff_plan.specs.Timetable.{AreTimings}
 use Rattle.waff_plan.specs.Timing.{work_of}
 use Rattle.waff_plan.specs.declared.timing.Timing.{Timing}
-use Rattle.waff_line.specs.Lined.{IsLined, LineValue, latecomers}
+use Rattle.waff_line.specs.Lined.{IsAwaiting, IsLined, LineValue, latecomers}
 use Rattle.waff_line.specs.Machine.{Course, State}
 use Rattle.waff_line.specs.Scaled.{scaled}
 use Rattle.waff_line.specs.declared.queue.Queue.{Queue}
@@ -39,8 +38,8 @@ value_of queue n = value_by queue.case queue.timings.items queue.tick n
 pub record IsQueue (queue : Queue) (workers : ℕ) (s : State) : Type 0 where
   pub many : length queue.timings.items ≡ length queue.case.assigned.now
   pub timings : AreTimings queue.case.trace.now.version queue.timings.items
-  pub nexts : AreFollowers (work_of queue.timings.items) (length queue.timings.items) queue.nexts.items
-  pub next_count : length queue.nexts.items ≡ length queue.timings.items
+  pub awaiting : queue.is_over ≡ false
+      → IsAwaiting (scaled queue.tick (work_of queue.timings.items)) s queue.awaits
   pub lined : queue.is_over ≡ false
       → IsLined (course_of queue workers) s queue.order.spans.now queue.order.joining queue.order.messages.items
       (latecomers queue.case.trace.now.version queue.due)

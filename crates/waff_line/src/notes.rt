@@ -61,7 +61,8 @@ impl Notes {
 
     /// The turn of message `m`.
     pub fn turn(&self, m: u32) -> Turn
-        ensures { shown result ≡ turn_of self.now.0 m }
+        ensures turn { shown result ≡ turn_of self.now.0 m }
+        ensures past { result.finish ≤ self.now.0.clock }
     {
         let place = m as usize;
         if place == 0 || place > self.turns.len() {

@@ -1,20 +1,21 @@
 //! Which messages are due, which have joined the order of service, and what is issued when one ends.
 
-ghost use Rattle.std.specs.Prelude.{◌≡◌, ◌≢◌, ◌-◌, ◌*◌, ◌≤◌, ℕ, length, map, false, All, IfOk, IfSome, OnOk};
-ghost use Rattle.std.specs.Prelude.{slice_index};
+ghost use Rattle.std.specs.Prelude.{◌≡◌, ◌-◌, ◌*◌, ◌≤◌, ℕ, length, map, false, All, IfOk, IfSome, OnOk};
+ghost use Rattle.std.specs.Prelude.{[], true, Contains, slice_set};
 ghost use Rattle.waff_assign.specs.Order.{affinity_of};
 ghost use Rattle.waff_order.specs.Joined.{HaveJoined};
 ghost use Rattle.waff_model.specs.Numbers.{IsAmongFirst};
-ghost use Rattle.waff_model.specs.declared.message.Version.TheVariants.{V3};
+ghost use Rattle.waff_model.specs.Versions.{has_clients};
 ghost use Rattle.waff_plan.specs.Timetable.{timings_of};
 ghost use Rattle.waff_plan.specs.Timing.{IsTiming, work_of};
 ghost use Rattle.waff_line.specs.Machine.{IsRunning, MayBegin, Reaches, ended_at, opening};
 ghost use Rattle.waff_line.specs.Noted.{CanBegin};
-ghost use Rattle.waff_line.specs.Lined.{AreFirstDue, IsFollowedBy, first_joined};
+ghost use Rattle.waff_line.specs.Lined.{AreFirstDue, AreOpened, first_joined, issue_noted};
 ghost use Rattle.waff_line.specs.Queued.{IsQueue, course_of};
 ghost use Rattle.waff_line.specs.Scaled.{scaled};
 ghost use Rattle.waff_line.specs.declared.queue.TheConstants.{MAX_TIME};
 ghost use Rattle.waff_model.specs.declared.limits.TheConstants.{MAX_MESSAGES};
+ghost use Rattle.waff_waits.specs.Waits.{IsFree, waiting_for};
 
 use crate::notes::Notes;
 use crate::order::Order;
@@ -22,8 +23,9 @@ use std::alloc::{AllocError, Global};
 use std::cmp::Reverse;
 use waff_assign::Case;
 use waff_model::limits::{MAX_COST, MAX_TICK, MAX_WORKERS};
-use waff_plan::followers::followers;
+use waff_plan::awaiting::awaiting;
 use waff_plan::{Due, NEVER, Timing, timings};
+use waff_waits::Waits;
 
 /// The most ticks of a run: its sums then fit into the text of a plan for as many workers as there can be.
 const MAX_RUN: u64 = MAX_TICK / MAX_WORKERS as u64;
@@ -59,8 +61,8 @@ pub(crate) struct Queue<'a> {
     pub timings: Vec<Timing>,
     /// Nanoseconds of a tick.
     pub tick: u32,
-    /// The message that follows each by its client, 0 for none.
-    pub nexts: Vec<u32>,
+    /// Each message waits for those that it awaits and that have not ended.
+    pub awaits: Waits,
     pub order: Order<'a>,
     /// The messages whose issue is known and that have not joined.
     pub due: Due,
@@ -79,14 +81,14 @@ impl<'a> Queue<'a> {
             (workers : ℕ) → IsQueue queue workers (opening (course_of queue workers))) }
     {
         let timings = timings(alloc, case.trace)?;
-        let nexts = followers(alloc, timings.as_slice())?;
+        let awaits = awaiting(alloc, timings.as_slice())?;
         let due = first_due(alloc, timings.as_slice(), tick)?;
         let order = first_order(alloc, &case)?;
         Ok(Queue {
             case,
             timings,
             tick,
-            nexts,
+            awaits,
             order,
             due,
             is_over: false,
@@ -119,7 +121,7 @@ impl<'a> Queue<'a> {
     /// By issue a message joins a nanosecond after its issue: all that are issued with it are known then.
     fn join_by_issue(&mut self, notes: &Notes) -> Result<Option<Joined>, AllocError>
         requires queue { IsQueue self.old notes.now.1 notes.now.0 }
-        requires version { self.old.case.trace.now.version ≡ V3 }
+        requires clients { has_clients self.old.case.trace.now.version ≡ true }
         requires going { self.old.is_over ≡ false }
         ensures case { self.new.case ≡ self.old.case }
         ensures timings { self.new.timings.items ≡ self.old.timings.items }
@@ -164,7 +166,7 @@ impl<'a> Queue<'a> {
         }
     }
 
-    /// Message `m`, which runs, ends at this time. The one that follows it by its client has its issue then.
+    /// Message `m`, which runs, ends at this time. Those that await nothing more have their issues then.
     pub fn end(&mut self, notes: &mut Notes, m: u32, now: u64) -> Result<Ended, AllocError>
         requires running { IsRunning notes.old.0 m }
         requires queue { IsQueue self.old notes.old.1 notes.old.0 }
@@ -182,15 +184,18 @@ impl<'a> Queue<'a> {
         if finish - start > nanos(MAX_COST, self.tick) || finish > latest(self.tick) {
             return Ok(Ended::TooLong);
         }
-        follow(
+        if was_over {
+            return Ok(Ended::Well);
+        }
+        let_go(
             self.timings.as_slice(),
-            self.nexts.as_slice(),
             self.tick,
+            notes,
+            &mut self.awaits,
             &mut self.due,
             m,
-            finish,
         )?;
-        self.is_over = was_over;
+        self.is_over = false;
         Ok(Ended::Well)
     }
 }
@@ -208,32 +213,54 @@ fn take_due(due: &mut Due, clock: u64) -> Option<Joined> {
     })
 }
 
-/// The message that follows `m`, which has finished at this time, is due at its issue.
-fn follow(
+/// Message `m` has ended: those that await nothing more are due at their issues.
+fn let_go(
     timings: &[Timing],
-    nexts: &[u32],
     tick: u32,
+    notes: &Notes,
+    awaits: &mut Waits,
     due: &mut Due,
     m: u32,
-    finish: u64,
 ) -> Result<(), AllocError>
-    requires number { IsAmongFirst (length nexts.now) m }
-    requires nexts { slice_index nexts.now (m - 1) ≤ length timings.now }
-    requires early { finish ≤ MAX_TIME }
+    requires number { IsAmongFirst (length awaits.old.awaited) m }
+    requires numbers { (d : ℕ) → Contains (waiting_for awaits.old m) d
+        → IsAmongFirst (length timings.now) d }
     requires timings { All IsTiming timings.now }
-    ensures { OnOk result (IsFollowedBy (scaled tick (work_of timings.now)) finish
-        (slice_index nexts.now (m - 1)) due.old due.new) }
+    requires early { notes.now.0.clock ≤ MAX_TIME }
+    ensures waits { OnOk result (awaits.new ≡ record {
+      awaited = slice_set awaits.old.awaited (m - 1) [];
+      finished = slice_set awaits.old.finished (m - 1) true;
+    }) }
+    ensures opened { OnOk result (AreOpened
+        (issue_noted (scaled tick (work_of timings.now)) notes.now.0)
+        (IsFree (waiting_for awaits.old m) awaits.new) due.old due.new) }
 {
-    let next = nexts[m as usize - 1];
-    if next == 0 {
-        return Ok(());
+    while let Some((next, is_open)) = awaits.let_go(m) {
+        if is_open {
+            due.push(issue(timings, tick, notes, next), next)?;
+        }
     }
-    let timing = timings[next as usize - 1];
-    let thought = finish + nanos(timing.think, tick);
-    due.push(nanos(timing.floor, tick).max(thought), next)
+    awaits.finish(m);
+    Ok(())
 }
 
-/// The messages that follow none are due at their releases.
+/// The time at which message `m` is issued, where those that it awaits have ended.
+fn issue(timings: &[Timing], tick: u32, notes: &Notes, m: u32) -> u64
+    requires number { IsAmongFirst (length timings.now) m }
+    requires timings { All IsTiming timings.now }
+    requires early { notes.now.0.clock ≤ MAX_TIME }
+    ensures { result ≡ issue_noted (scaled tick (work_of timings.now)) notes.now.0 m }
+{
+    let timing = timings[m as usize - 1];
+    let floor = nanos(timing.floor, tick);
+    if timing.follows == 0 {
+        return floor;
+    }
+    let finish = notes.turn(timing.follows).finish;
+    floor.max(finish + nanos(timing.think, tick))
+}
+
+/// The messages that await none are due at their releases.
 fn first_due(alloc: Global, timings: &[Timing], tick: u32) -> Result<Due, AllocError>
     requires few { length timings.now ≤ MAX_MESSAGES }
     ensures { IfOk result (AreFirstDue (scaled tick (work_of timings.now)) (length timings.now)) }

@@ -1,13 +1,14 @@
-use Rattle.std.proofs.Common.{◌≡◌, ℕ, ◌+◌, ◌-◌, [], ◌∷◌, ◌++◌, ◌≤◌, List, length, map, arith, sym, subst}
+use Rattle.std.proofs.Common.{◌≡◌, ℕ, ◌+◌, ◌-◌, [], ◌∷◌, ◌++◌, ◌≤◌, List, length, map, ap, arith, sym, subst}
 use Rattle.std.specs.List.Sorted.{IsPermutation}
 use Rattle.std.specs.declared.cmp.Reverse.{Reverse}
 use Rattle.std.proofs.lemmas.List.{length-append, map-append}
 use Rattle.std.proofs.lemmas.List.Sorted.{IsPermutation-sym, IsPermutation-to_front}
 use Rattle.waff_plan.specs.Timing.{timing_of, work_of}
-use Rattle.waff_plan.proofs.FollowLemmas.{followed_none, followed_some}
+use Rattle.waff_plan.proofs.FollowLemmas.{awaits_it, awaits_none}
 use Rattle.waff_line.specs.Lined.{AreFirstDue}
-use Rattle.waff_line.specs.Scaled.{scaled}
+use Rattle.waff_line.specs.Scaled.{awaits_scaled, scaled}
 use Rattle.waff_line.proofs.FirstDue.{due_moved, due_none, due_put, due_same}
+use Rattle.waff_line.proofs.Scaling.{awaited_scaled}
 use Rattle.waff_line.proofs.queue.first_due.Goals as goal
 use Rattle.waff_line.proofs.queue.first_due.Goals.{then-timing-eq0, else-timing-eq0}
 
@@ -31,6 +32,7 @@ loop-m-preserved c =
     let work = scaled c.args.tick (work_of c.args.timings.now) in
     let m = c.loop-m.m in
     let f = (timing_of c.args.timings.now m).follows in
+    let think = (timing_of c.args.timings.now m).think in
     let pair = λ (r : Reverse (ℕ × ℕ)). r.0 in
     let old = c.loop-m.issues.items in
     let back : m + 1 - 1 ≡ m = omega arith in
@@ -42,7 +44,7 @@ loop-m-preserved c =
             few = length_pushed old _ (omega (arith, h.few, c.loop-m.auto.m));
             room = omega (arith, h.room, w.push_reserved.ensures.capacity);
             first = due_put work m c.loop-m.auto.m (map pair old) h.first (map pair (old ++ one ∷ [])) w.nanos.result w.nanos.ensures
-                (followed_none f w.if-timing-eq0.true)
+                (ap (awaits_scaled c.args.tick) (awaits_none f think w.if-timing-eq0.true))
                 (subst (λ (xs : List (ℕ × ℕ)). IsPermutation ((w.nanos.result, m) ∷ map pair old) xs) (sym (map-append pair old (one ∷ [])))
                 (IsPermutation-sym (map pair old ++ (w.nanos.result, m) ∷ []) ((w.nanos.result, m) ∷ map pair old) (IsPermutation-to_front (map pair old) (w.nanos.result, m))));
           })
@@ -50,7 +52,8 @@ loop-m-preserved c =
           rw w.issues-is (record {
             few = omega (arith, h.few);
             room = h.room;
-            first = due_same work m c.loop-m.auto.m (map pair old) h.first f (followed_some f w.if-timing-eq0.false);
+            first = due_same work m c.loop-m.auto.m (map pair old) h.first f
+                (awaited_scaled c.args.tick f ((work_of c.args.timings.now).awaits m) (awaits_it f think w.if-timing-eq0.false));
           })
     ])
 

@@ -4,7 +4,7 @@ use Rattle.std.proofs.lemmas.List.{length-map}
 use Rattle.waff_model.specs.Versions.{has_clients}
 use Rattle.waff_assign.specs.Order.{affinity_of}
 use Rattle.waff_line.proofs.Going.{first_more}
-use Rattle.waff_line.proofs.Keeping.{first_by_number, no_clients, range_more}
+use Rattle.waff_line.proofs.Keeping.{first_by_number, range_more}
 use Rattle.waff_line.proofs.queue.first_order.Goals as goal
 
 pub join-requires-clause-joined : goal.join-requires-clause-joined
@@ -40,4 +40,4 @@ returns-clause-messages c =
     let all : c.loop-m.m - 1 ≡ count = omega arith in
     c.loop-m.invariant.messages
     ∙ ap (λ (n : ℕ). range_with_len 1 n) all
-    ∙ sym (first_by_number version count (no_clients version (ap has_clients (sym c.version.ensures) ∙ sym c.has_clients.ensures ∙ c.if-has_clients.false)))
+    ∙ sym (first_by_number version count (ap has_clients (sym c.version.ensures) ∙ sym c.has_clients.ensures ∙ c.if-has_clients.false))

@@ -10,7 +10,7 @@ use Rattle.waff_line.proofs.queue.Queue.join_by_issue.Goals as goal
 
 pub of-requires : goal.of-requires
 of-requires c = record {
-  number = joins_number c.args.self.now c.args.notes.now.1 c.args.notes.now.0 c.requires.queue c.requires.going c.requires.version
+  number = joins_number c.args.self.now c.args.notes.now.1 c.args.notes.now.0 c.requires.queue c.requires.going c.requires.clients
       (c.in-Some.issue, c.in-Some.message) c.pop_by.new.self c.in-Some.ensures.1;
 }
 
@@ -18,8 +18,7 @@ pub returns-in_err-join-clause-queue : goal.returns-in_err-join-clause-queue
 returns-in_err-join-clause-queue c = record {
   many = c.requires.queue.many;
   timings = c.requires.queue.timings;
-  nexts = c.requires.queue.nexts;
-  next_count = c.requires.queue.next_count;
+  awaiting = λ going. absurd (false≢true (sym going));
   lined = λ going. absurd (false≢true (sym going));
 }
 
@@ -27,8 +26,7 @@ pub returns-clause-queue : goal.returns-clause-queue
 returns-clause-queue c = record {
   many = c.requires.queue.many;
   timings = c.requires.queue.timings;
-  nexts = c.requires.queue.nexts;
-  next_count = c.requires.queue.next_count;
+  awaiting = λ going. c.requires.queue.awaiting c.requires.going;
   lined = λ going.
       let q = c.args.self.now in
       let s = c.args.notes.now.0 in
@@ -39,7 +37,7 @@ returns-clause-queue c = record {
       let clock = c.clock-clock.ensures in
       let have = subst (λ (a : ℕ). HaveJoined q.case.tree.now q.order.spans.now (affinities ++ a ∷ []) c.join.new.self.joining) c.of.ensures
       (c.in_ok-join.ensures.joined q.case.tree.now affinities (c.requires.queue.lined c.requires.going).joined) in
-      let more = joins_more q c.args.notes.now.1 s c.requires.queue c.requires.going c.requires.version
+      let more = joins_more q c.args.notes.now.1 s c.requires.queue c.requires.going c.requires.clients
       (c.in-Some.issue, c.in-Some.message) c.pop_by.new.self c.in-Some.ensures.1 (omega (arith, passed, some, clock)) c.join.new.self.joining have in
       subst (λ (spans : List Span). IsLined course s spans c.join.new.self.joining c.join.new.self.messages.items (latecomers q.case.trace.now.version c.pop_by.new.self))
       (sym c.in_ok-join.ensures.spans)
