@@ -86,7 +86,7 @@ chain-of-more before more work wider (m ∷ rest) h = on m rest h
   where
     linked : (i j : ℕ) → IsLinked before work i j → IsLinked more work i j
     linked i j (inl pair) = inl (wider i j pair)
-    linked i j (inr follows) = inr follows
+    linked i j (inr awaited) = inr awaited
 
     on : (m : ℕ) (rest : List ℕ) → LinksOn before work m rest → LinksOn more work m rest
     on m [] h = h

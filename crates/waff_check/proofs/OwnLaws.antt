@@ -16,7 +16,7 @@ use Rattle.waff_plan.specs.Bound.{left_side, right_side}
 use Rattle.waff_plan.specs.Chain.{IsChain, chain_cost, chain_release}
 use Rattle.waff_plan.specs.IssueLaws.{StartsIssued}
 use Rattle.waff_plan.specs.Issues.{IsServedBefore}
-use Rattle.waff_plan.specs.Obeys.{FollowsEarlier, KeepsOrder, Obeys}
+use Rattle.waff_plan.specs.Obeys.{AwaitsEarlier, KeepsOrder, Obeys}
 use Rattle.waff_plan.specs.Instances.{started_first, work_of_instance}
 use Rattle.waff_plan.specs.Serving.{served_before, started_before}
 use Rattle.waff_plan.specs.Timetable.{clients_of}
@@ -156,7 +156,7 @@ started_too V3 tree assigned work start told long same i j before =
     record { first = before.first; second = before.second; precedes = omega (arith, one, other, before.precedes); excludes = before.excludes }
 
 -- and each message is issued when it starts
-issued_too : (work : Work) (start told : ℕ → ℕ) → FollowsEarlier work → AreSame work told start → StartsIssued work start → StartsIssued work told
+issued_too : (work : Work) (start told : ℕ → ℕ) → AwaitsEarlier work → AreSame work told start → StartsIssued work start → StartsIssued work told
 issued_too work start told follows same issued m number =
     let again = same_issue work told start m (λ f follow.
     let earlier = follows f m follow in

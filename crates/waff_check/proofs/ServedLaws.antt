@@ -1,7 +1,6 @@
 -- What a plan serves before what, by the version of its trace, and pairs that overlap.
-use Rattle.std.proofs.Common.{◌≡◌, ℕ, ◌+◌, ◌-◌, ◌<◌, ◌≤◌, inl, inr, List, length, Option, Some, None, option_map, arith, refl, sym, ◌∙◌, subst}
+use Rattle.std.proofs.Common.{◌≡◌, ◌≢◌, ℕ, ◌-◌, ◌<◌, ◌≤◌, inl, inr, List, [], ◌∷◌, length, arith, refl, ◌∙◌, ap}
 use Rattle.std.proofs.lemmas.Bool.{cases_lt, cases_order}
-use Rattle.std.proofs.lemmas.Option.{none-some, same_Some}
 use Rattle.waff_model.specs.Messages.{Arrivals, IsTrace}
 use Rattle.waff_model.specs.Tree.{Node, Excludes}
 use Rattle.waff_model.specs.Versions.{has_clients}
@@ -13,10 +12,12 @@ use Rattle.waff_plan.specs.IssueLaws.{StartsIssued}
 use Rattle.waff_plan.specs.Obeys.{KeepsOrder}
 use Rattle.waff_plan.specs.Serving.{IsStartedBefore, started_before}
 use Rattle.waff_plan.specs.Timetable.{timings_of, work_of_messages}
-use Rattle.waff_plan.specs.Timing.{no_timing}
-use Rattle.waff_plan.specs.Work.{IsAmongFirst, Work, finish_of, issue_after}
+use Rattle.waff_plan.specs.Timing.{await_of, no_timing}
+use Rattle.waff_plan.specs.Work.{IsAmongFirst, Work, finish_of, gap_after, holds_until}
 use Rattle.waff_plan.proofs.ApartLaws.{apart_where_finished, together_where_running, turned}
 use Rattle.waff_plan.proofs.Exclusion.{excludes_back}
+use Rattle.waff_plan.proofs.FollowLemmas.{awaits_one}
+use Rattle.waff_plan.proofs.Holding.{awaited-le-issue, floor-le-issue, gap_same, issued_by}
 use Rattle.waff_plan.proofs.TimingLemmas.{are_timings, length-timings_of}
 use Rattle.waff_check.specs.Faults.{NoneOf, Overlaps, OverlapsWhere, StartsEarly, StartsUnissued}
 
@@ -68,53 +69,32 @@ module _ (tree : List Node) (assigned : List ℕ) (work : Work) (start : ℕ →
 
 -- a message that is neither early nor starts before its client issues it
 module _ (work : Work) (start : ℕ → ℕ) where
-  issued_after : (m : ℕ) (follows : Option ℕ) → work.follows m ≡ follows → work.floor m ≤ start m
-      → ((f : ℕ) → work.follows m ≡ Some f → finish_of work start f + work.think m ≤ start m)
-      → issue_after (work.floor m) (work.think m) (option_map (finish_of work start) follows) ≤ start m
-  issued_after m None is released after = released
-  issued_after m (Some f) is released after = omega (arith, released, after f is)
-
   pub starts_issued : NoneOf (StartsEarly work start) → NoneOf (StartsUnissued work start) → StartsIssued work start
   starts_issued late issued m number =
-      issued_after m (work.follows m) refl
+      issued_by (finish_of work start) (work.floor m) (start m) (work.awaits m)
       (elim (cases_lt (start m) (work.floor m)) [
         | inl early ↦ absurd (late m (record { number = number; early = early }))
         | inr released ↦ released
       ])
-      (λ f follows. elim (cases_lt (start m) (finish_of work start f + work.think m)) [
-        | inl early ↦ absurd (issued m (record { number = number; followed = f; follows = follows; early = early }))
+      (λ i awaited. elim (cases_lt (start m) (holds_until work start m i)) [
+        | inl early ↦ absurd (issued m (record { number = number; awaited = i; awaits = awaited; early = early }))
         | inr after ↦ after
       ])
 
   -- what is issued when it starts is neither
-  pub released_by : (m : ℕ) (follows : Option ℕ) → issue_after (work.floor m) (work.think m) (option_map (finish_of work start) follows) ≤ start m
-      → work.floor m ≤ start m
-  released_by m None issued = issued
-  released_by m (Some f) issued = omega (arith, issued)
-
-  followed_by : (m f : ℕ) (follows : Option ℕ) → follows ≡ Some f → issue_after (work.floor m) (work.think m) (option_map (finish_of work start) follows) ≤ start m
-      → finish_of work start f + work.think m ≤ start m
-  followed_by m f None is issued = absurd (cc is)
-  followed_by m f (Some g) is issued =
-      let same : g ≡ f = cc is in
-      subst (λ x. finish_of work start x + work.think m ≤ start m) same (omega (arith, issued))
-
   pub none_early : StartsIssued work start → NoneOf (StartsEarly work start)
-  none_early issued m early = omega (arith, released_by m (work.follows m) (issued m early.number), early.early)
+  none_early issued m early = omega (arith, floor-le-issue (λ i j. ⊥) work start m, issued m early.number, early.early)
 
   pub none_unissued : StartsIssued work start → NoneOf (StartsUnissued work start)
   none_unissued issued m early =
-      omega (arith, followed_by m early.followed (work.follows m) early.follows (issued m early.number), early.early)
+      omega (arith, awaited-le-issue work start early.awaited m early.awaits, issued m early.number, early.early)
 
--- what a message that follows another says of it
-pub unissued_none : (work : Work) (start : ℕ → ℕ) (n : ℕ) → work.follows n ≡ None → StartsUnissued work start n → ⊥
-unissued_none work start n none early = none-some early.followed (sym none ∙ early.follows)
-
-pub unissued_by : (work : Work) (start : ℕ → ℕ) (n f : ℕ) → work.follows n ≡ Some f → StartsUnissued work start n
-    → start n < finish_of work start f + work.think n
-unissued_by work start n f some early =
-    let same : early.followed ≡ f = same_Some early.followed f (sym early.follows ∙ some) in
-    subst (λ x. start n < finish_of work start x + work.think n) same early.early
+-- the gap after the message that another follows is the think time
+pub gap_after_one : (n think : ℕ) → n ≢ 0 → gap_after n (await_of n think) ≡ think
+gap_after_one n think some = ap (gap_after n) (awaits_one n think some) ∙ alone
+  where
+    alone : gap_after n (record { message = n; gap = think } ∷ []) ≡ think
+    alone = omega (arith, gap_same (record { message = n; gap = think }) n refl)
 
 -- in a trace each message runs at a tick
 pub all_run : (trace : Arrivals) → IsTrace trace → (assigned : List ℕ) → length trace.messages ≡ length assigned → AllRun (work_of_messages trace.messages) assigned

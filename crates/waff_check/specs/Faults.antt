@@ -3,7 +3,7 @@
 use Rattle.std.specs.Prelude.{◌≡◌, ◌≢◌, ◌⊎◌, ℕ, ◌+◌, ◌-◌, ◌<◌, ◌≤◌, List, length, slice_index}
 use Rattle.std.specs.Prelude.{Bool, false, true, Option, Some, None}
 use Rattle.waff_assign.specs.Order.{Relation}
-use Rattle.waff_plan.specs.Work.{Work, IsNumber, finish_of}
+use Rattle.waff_plan.specs.Work.{Work, IsAwaited, IsNumber, finish_of, holds_until}
 pub use Rattle.waff_plan.specs.Apart.{RunTogether}
 use Rattle.waff_plan.specs.Apart.{Collides}
 use Rattle.waff_plan.specs.Workers.{running}
@@ -80,13 +80,12 @@ pub record StartsEarly (work : Work) (start : ℕ → ℕ) (n : ℕ) : Type 0 wh
   pub number : IsNumber work n
   pub early : start n < work.floor n
 
--- a message that starts before its client issues it: sooner than its think time after the finish of
--- the message that it follows
+-- a message that starts before it is issued: while one that it awaits holds it back
 pub record StartsUnissued (work : Work) (start : ℕ → ℕ) (n : ℕ) : Type 0 where
   pub number : IsNumber work n
-  pub followed : ℕ
-  pub follows : work.follows n ≡ Some followed
-  pub early : start n < finish_of work start followed + work.think n
+  pub awaited : ℕ
+  pub awaits : IsAwaited (work.awaits n) awaited
+  pub early : start n < holds_until work start n awaited
 
 -- the totals of a summary are those of the trace, the starts and the chain; where all releases are
 -- 0, as in a trace of the first version, the release is 0

@@ -16,8 +16,7 @@ first_of work many = record {
   count = many;
   cost = work.cost;
   floor = work.floor;
-  follows = work.follows;
-  think = work.think;
+  awaits = work.awaits;
 }
 
 abbrev pub shift_of : ℕ → ℕ → ℕ → Shift

@@ -1,11 +1,11 @@
 //! The chain of a text.
 
-ghost use Rattle.std.specs.Prelude.{◌≡◌, ◌≤◌, ◌↔◌, IsTrue, MatchOption, Some};
+ghost use Rattle.std.specs.Prelude.{◌≡◌, ◌≤◌, ◌↔◌, IsTrue, MatchOption};
 ghost use Rattle.waff_plan.specs.Chain.{IsListed};
 ghost use Rattle.waff_plan.specs.Planned.{planned_starts, planned_work};
 ghost use Rattle.waff_plan.specs.Serving.{IsStartedBefore};
 ghost use Rattle.waff_plan.specs.Timetable.{work_in};
-ghost use Rattle.waff_plan.specs.Work.{IsNumber};
+ghost use Rattle.waff_plan.specs.Work.{IsAwaited, IsNumber};
 ghost use Rattle.waff_check.specs.Faults.{AreLinked, IsBroken, IsLeastOf};
 ghost use Rattle.waff_check.specs.Searches.{planned_before, planned_links};
 
@@ -38,22 +38,22 @@ fn is_before(planned: &Planned<'_>, i: u32, j: u32) -> bool
     }
 }
 
-/// Whether message `i` is the one that message `j` follows.
-fn is_followed(plan: &Plan, i: u32, j: u32) -> bool
+/// Whether message `i` is one that message `j` awaits.
+fn is_awaited(plan: &Plan, i: u32, j: u32) -> bool
     requires first { 1 ≤ i }
     requires second { IsNumber (work_in plan.now) j }
-    ensures { IsTrue result ↔ ((work_in plan.now).follows j ≡ Some i) }
+    ensures { IsTrue result ↔ IsAwaited ((work_in plan.now).awaits j) i }
 {
     plan.follows(j) == i
 }
 
-/// Whether a link goes from message `i` to message `j`: `i` is served before `j`, or `j` follows it.
+/// Whether a link goes from message `i` to message `j`: `i` is served before `j`, or `j` awaits it.
 fn is_linked(planned: &Planned<'_>, i: u32, j: u32) -> bool
     requires first { IsNumber (planned_work planned.now) i }
     requires second { IsNumber (planned_work planned.now) j }
     ensures { IsTrue result ↔ planned_links planned.now i j }
 {
-    is_before(planned, i, j) || is_followed(planned.plan, i, j)
+    is_before(planned, i, j) || is_awaited(planned.plan, i, j)
 }
 
 /// The first place of a chain, from 2 on, to whose message no link goes from the one before it.

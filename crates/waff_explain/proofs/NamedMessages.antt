@@ -1,12 +1,13 @@
 -- The messages that a verdict names are messages of the trace.
-use Rattle.std.proofs.Common.{◌≡◌, ℕ, zero, suc, ◌+◌, ◌≤◌, List, length, Bool, true, false, Option, Some, None, arith, subst}
+use Rattle.std.proofs.Common.{◌≡◌, ◌≢◌, ℕ, ◌≤◌, List, length, Bool, true, false, arith, subst}
 use Rattle.waff_model.specs.Numbers.{IsAmongFirst}
 use Rattle.waff_model.specs.Versions.{has_clients}
 use Rattle.waff_model.specs.declared.message.Message.{Message}
 use Rattle.waff_assign.specs.Order.{Relation}
 use Rattle.waff_plan.specs.Timetable.{timings_of, work_of_messages}
-use Rattle.waff_plan.specs.Timing.{some_number, timing_of}
+use Rattle.waff_plan.specs.Timing.{timing_of}
 use Rattle.waff_plan.specs.Work.{IsNumber, Work}
+use Rattle.waff_plan.proofs.FollowLemmas.{awaited_some}
 use Rattle.waff_plan.proofs.TimingLemmas.{length-timings_of}
 use Rattle.waff_check.specs.Faults.{OverlapsWhere, StartsUnissued}
 use Rattle.waff_check.specs.Verdicts.{Claim, IsFound, PairOverlaps, pairs_of_claim, start_in, version_of, work_of_claim}
@@ -37,12 +38,10 @@ pair_is_named claim first second lengths overlaps =
       record { from = omega (arith, pair.from, pair.earlier); to = omega (arith, pair.to, lengths) },
     )
 
-positive : (n followed : ℕ) → some_number n ≡ Some followed → 1 ≤ n
-positive zero followed is = let bad : None ≡ Some followed = is in absurd (cc)
-positive (suc n) followed is = omega arith
-
 -- a message that starts before it is issued follows one
 pub follows_one : (messages : List Message) (start : ℕ → ℕ) (n : ℕ) → StartsUnissued (work_of_messages messages) start n
     → 1 ≤ (timing_of (timings_of messages) n).follows
 follows_one messages start n unissued =
-    positive (timing_of (timings_of messages) n).follows unissued.followed unissued.follows
+    let timing = timing_of (timings_of messages) n in
+    let some : timing.follows ≢ 0 = awaited_some timing.follows timing.think unissued.awaited unissued.awaits in
+    omega (arith, some)

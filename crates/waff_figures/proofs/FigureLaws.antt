@@ -1,7 +1,7 @@
 -- Plans with the same starts have the same figures.
 use Rattle.std.proofs.Common.{◌≡◌, ℕ, ◌+◌, ◌-◌, ◌<◌, ◌≤◌, Option, sum_by, arith, sym, ◌∙◌, ap, subst}
 use Rattle.waff_model.specs.Unique.{AtMostOne}
-use Rattle.waff_plan.specs.Obeys.{FollowsEarlier}
+use Rattle.waff_plan.specs.Obeys.{AwaitsEarlier}
 use Rattle.waff_plan.specs.Unique.{AreSame}
 use Rattle.waff_plan.specs.Work.{Work, finish_of, greatest, issue_of, numbers}
 use Rattle.waff_plan.proofs.Holding.{same_issue}
@@ -13,7 +13,7 @@ use Rattle.waff_figures.proofs.PercentileLemmas.{percentile_is_one}
 use Rattle.waff_figures.proofs.RowLemmas.{map_range_same}
 use Rattle.waff_figures.proofs.SumLemmas.{sum_both, sum_same}
 
-module _ (work : Work) (follows : FollowsEarlier work) (start other : ℕ → ℕ) (same : AreSame work start other) where
+module _ (work : Work) (follows : AwaitsEarlier work) (start other : ℕ → ℕ) (same : AreSame work start other) where
   at : (m : ℕ) → 1 ≤ m → m < 1 + work.count → start m ≡ other m
   at m from to = same m (record { from = from; to = omega (arith, to) })
 

@@ -12,7 +12,7 @@ use Rattle.waff_plan.specs.Bound.{IsWorkers}
 use Rattle.waff_plan.specs.Instances.{work_of_instance}
 use Rattle.waff_plan.specs.Laws.{LeastIsShortest, NoneIsShorter}
 use Rattle.waff_plan.specs.LowerBound.{NoneIsBelow}
-use Rattle.waff_plan.specs.Obeys.{FollowsEarlier, IsLeast}
+use Rattle.waff_plan.specs.Obeys.{AwaitsEarlier, IsLeast}
 use Rattle.waff_plan.specs.Serving.{served_before}
 use Rattle.waff_plan.specs.Timetable.{clients_of}
 use Rattle.waff_plan.specs.Work.{Work, length_of, total_of}
@@ -29,8 +29,8 @@ least_in_order : (limit : Option ℕ) (before : Relation) (work : Work) → Leas
 least_in_order None before work shortest shared start other known least obeys = shortest start other least obeys
 least_in_order (Some k) before work shortest shared start other known least plan = shared k start other known.from least plan
 
--- a message of a client follows an earlier one
-pub follows_in : (instance : Instance) → FollowsEarlier (work_of_instance instance)
+-- what a message awaits comes earlier
+pub follows_in : (instance : Instance) → AwaitsEarlier (work_of_instance instance)
 follows_in instance =
     client_follows_earlier (clients_of instance.trace.messages) (work_of_instance instance) (timings_follow_clients instance.trace.messages)
 

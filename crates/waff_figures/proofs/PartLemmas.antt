@@ -9,7 +9,7 @@ use Rattle.waff_model.specs.Tree.{Node}
 use Rattle.waff_model.specs.Unique.{AtMostOne}
 use Rattle.waff_assign.specs.Order.{affinity_of}
 use Rattle.waff_plan.specs.Chain.{IsAmongFirst, IsListed}
-use Rattle.waff_plan.specs.Obeys.{FollowsEarlier}
+use Rattle.waff_plan.specs.Obeys.{AwaitsEarlier}
 use Rattle.waff_plan.specs.Unique.{AreSame}
 use Rattle.waff_plan.specs.Work.{Work, greatest, issue_of, numbers}
 use Rattle.waff_figures.specs.ByAffinity.{runs_in}
@@ -96,7 +96,7 @@ part_is_one work start messages one other h k =
     h.are ∙ ap (λ n. part_figures_at work start messages n one.p99) p50 ∙ ap (part_figures_at work start messages other.p50) p99 ∙ sym k.are
 
 -- and the same for the same starts
-module _ (work : Work) (follows : FollowsEarlier work) (start other : ℕ → ℕ) (same : AreSame work start other) where
+module _ (work : Work) (follows : AwaitsEarlier work) (start other : ℕ → ℕ) (same : AreSame work start other) where
   module _ (messages : List ℕ) (all : All (IsAmongFirst work.count) messages) where
     latencies_moved : latencies_among work start messages ≡ latencies_among work other messages
     latencies_moved = map_same (latency_of work start) (latency_of work other) messages (λ k d low.

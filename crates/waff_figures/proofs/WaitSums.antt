@@ -1,5 +1,5 @@
 -- Waits add up.
-use Rattle.std.proofs.Common.{◌≡◌, ℕ, zero, suc, ◌+◌, ◌-◌, ◌<◌, ◌≤◌, inl, inr, cond, ltb, ◌==◌, Bool, true, false, List, [], ◌∷◌, get_or, sum_by, All, Option, Some, None, option_map, arith, refl, sym, ◌∙◌, ap, subst}
+use Rattle.std.proofs.Common.{◌≡◌, ℕ, zero, suc, ◌+◌, ◌-◌, ◌<◌, ◌≤◌, inl, inr, cond, ltb, ◌==◌, Bool, true, false, List, [], ◌∷◌, get_or, sum_by, All, Option, Some, None, arith, refl, sym, ◌∙◌, ap, subst}
 use Rattle.std.specs.List.{range_with_len}
 use Rattle.std.proofs.lemmas.Bool.{cond_both, ltb-false}
 use Rattle.std.proofs.lemmas.Bool.Decides.{nat_tests}
@@ -8,7 +8,8 @@ use Rattle.std.proofs.lemmas.List.Sorted.{sum_by-IsPermutation}
 use Rattle.std.proofs.lemmas.List.Sums.{sum_by-append, sum_by-cons}
 use Rattle.waff_plan.specs.Obeys.{Obeys}
 use Rattle.waff_plan.specs.Waited.{IsWaitedFor}
-use Rattle.waff_plan.specs.Work.{Work, IsNumber, finish_of, issue_after, issue_of, numbers}
+use Rattle.waff_plan.specs.Work.{Work, IsNumber, finish_of, issue_of, numbers}
+use Rattle.waff_plan.proofs.Holding.{awaited-le-issue}
 use Rattle.waff_plan.proofs.Longest.{sum_more}
 use Rattle.waff_figures.specs.Waits.{AreWaits, ready_of, wait_of, waits_in}
 use Rattle.waff_figures.specs.WaitLaws.{OwnClientIsNoWait, ReadyIsGreatest, TicksAddUp, WaitsAddUp, WaitsAreOnce}
@@ -132,9 +133,8 @@ none_of m (w ∷ ws) some none =
     (none_of m ws (All-tail (λ (wait : Wait). 0 < wait.ticks) w ws some) (omega (arith, cons, none)))
 
 pub own_client_is_no_wait : (before : ℕ → ℕ → Type 0) (work : Work) (start : ℕ → ℕ) → OwnClientIsNoWait before work start
-own_client_is_no_wait before work start waits i m are obeys number follows at_once =
-    let issued : issue_of work start m ≡ issue_after (work.floor m) (work.think m) (Some (finish_of work start i))
-    = ap (λ f. issue_after (work.floor m) (work.think m) (option_map (finish_of work start) f)) follows in
+own_client_is_no_wait before work start waits i m are obeys number awaited at_once =
+    let issued = awaited-le-issue work start i m awaited in
     let all = one_adds_up before work start waits are obeys m number in
     none_of m waits (subst (All (λ wait. 0 < wait.ticks)) (sym are.waits_are) (some_upto work start are.links work.count))
     (omega (arith, all, issued, at_once))

@@ -10,7 +10,7 @@ use Rattle.waff_model.specs.Unique.{AtMostOne}
 use Rattle.waff_model.specs.declared.message.Version.{Version}
 use Rattle.waff_model.specs.declared.message.Version.TheVariants.{V1, V2, V3}
 use Rattle.waff_assign.specs.Order.{Relation, affinity_of}
-use Rattle.waff_plan.specs.Obeys.{FollowsEarlier}
+use Rattle.waff_plan.specs.Obeys.{AwaitsEarlier}
 use Rattle.waff_plan.specs.Serving.{started_before}
 use Rattle.waff_plan.specs.Unique.{AreSame}
 use Rattle.waff_plan.specs.Waited.{AreWaitedFor, IsWaitedFor}
@@ -28,7 +28,7 @@ use Rattle.waff_figures.proofs.Lists.{bytes_laws, same_order}
 use Rattle.waff_figures.proofs.WaitLemmas.{first_known, upto_more, waits_at, waits_upto}
 
 -- plans with the same starts have the same links, and the same waits
-module _ (before : ℕ → ℕ → Type 0) (work : Work) (known : (i m : ℕ) → before i m → IsNumber work i) (follows : FollowsEarlier work) (start other : ℕ → ℕ)
+module _ (before : ℕ → ℕ → Type 0) (work : Work) (known : (i m : ℕ) → before i m → IsNumber work i) (follows : AwaitsEarlier work) (start other : ℕ → ℕ)
     (same : AreSame work start other) where
   same_finish : (i m : ℕ) → before i m → finish_of work start i ≡ finish_of work other i
   same_finish i m pair = ap (λ s. s + work.cost i) (same i (known i m pair))

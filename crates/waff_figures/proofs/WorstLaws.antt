@@ -7,7 +7,7 @@ use Rattle.waff_model.specs.Tree.{Node}
 use Rattle.waff_model.specs.declared.message.Message.{Message}
 use Rattle.waff_model.specs.declared.message.Version.{Version}
 use Rattle.waff_assign.specs.Order.{affinity_name}
-use Rattle.waff_plan.specs.Obeys.{FollowsEarlier}
+use Rattle.waff_plan.specs.Obeys.{AwaitsEarlier}
 use Rattle.waff_plan.specs.Serving.{started_before}
 use Rattle.waff_plan.specs.Timetable.{clients_of}
 use Rattle.waff_plan.specs.Unique.{AreSame}
@@ -84,7 +84,7 @@ module _ (count : ℕ) (latency other : ℕ → ℕ) (same : (m : ℕ) → IsAmo
 
 -- plans with the same starts have the same lines
 module _ (version : Version) (tree : List Node) (assigned : List ℕ) (messages : List Message) (work : Work) (count : length assigned ≡ work.count)
-    (follows : FollowsEarlier work) (start other : ℕ → ℕ) (same : AreSame work start other) where
+    (follows : AwaitsEarlier work) (start other : ℕ → ℕ) (same : AreSame work start other) where
   known : (i m : ℕ) → started_before version tree assigned start i m → IsNumber work i
   known i m pair = let is = first_known version tree assigned start i m pair in record { from = is.from; to = omega (arith, is.to, count) }
 

@@ -1,6 +1,6 @@
 -- What is told of one plan.
 use Rattle.std.specs.Prelude.{◌≡◌, ℕ, ◌+◌, ◌-◌, List, Option, map, sum_by}
-use Rattle.waff_plan.specs.Obeys.{FollowsEarlier, StartsIssued}
+use Rattle.waff_plan.specs.Obeys.{AwaitsEarlier, StartsIssued}
 use Rattle.waff_plan.specs.Unique.{AreSame}
 use Rattle.waff_plan.specs.Work.{Work, finish_of, greatest, issue_of, length_of, numbers, total_of}
 use Rattle.waff_figures.specs.Percentile.{IsPercentile}
@@ -61,5 +61,5 @@ LatenciesAddUp work =
 abbrev pub FiguresAreOne : Work → Type 0
 FiguresAreOne work =
     (limit : Option ℕ) (bound : ℕ) (start other : ℕ → ℕ) (one another : Figures)
-    → FollowsEarlier work → AreSame work start other → AreFigures limit work bound start one
+    → AwaitsEarlier work → AreSame work start other → AreFigures limit work bound start one
     → AreFigures limit work bound other another → one ≡ another

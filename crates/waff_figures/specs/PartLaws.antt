@@ -2,7 +2,7 @@
 use Rattle.std.specs.Prelude.{◌≡◌, ℕ, Bool, List, Option, length, sum_by}
 use Rattle.std.specs.List.{range_with_len}
 use Rattle.waff_model.specs.Tree.{Node}
-use Rattle.waff_plan.specs.Obeys.{FollowsEarlier}
+use Rattle.waff_plan.specs.Obeys.{AwaitsEarlier}
 use Rattle.waff_plan.specs.Unique.{AreSame}
 use Rattle.waff_plan.specs.Work.{Work, numbers}
 use Rattle.waff_figures.specs.ByAffinity.{runs_in}
@@ -45,6 +45,6 @@ LabelWaitsAddUp labels work =
 abbrev pub PartsAreOne : Work → Type 0
 PartsAreOne work =
     (columns : Columns) (belongs : ℕ → ℕ → Bool) (keys : List ℕ) (start other : ℕ → ℕ)
-    (one another : List PartFigures) → FollowsEarlier work → AreSame work start other
+    (one another : List PartFigures) → AwaitsEarlier work → AreSame work start other
     → AreTheParts columns work start belongs keys one
     → AreTheParts columns work other belongs keys another → one ≡ another

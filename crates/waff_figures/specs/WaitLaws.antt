@@ -1,15 +1,15 @@
 -- What holds of the waits of all plans: they add up, and they leave no choice.
-use Rattle.std.specs.Prelude.{◌≡◌, ◌≢◌, ℕ, ◌+◌, ◌-◌, ◌==◌, ◌≤◌, ◌⊎◌, All, Bool, List, Option, Some}
+use Rattle.std.specs.Prelude.{◌≡◌, ◌≢◌, ℕ, ◌+◌, ◌-◌, ◌==◌, ◌≤◌, ◌⊎◌, All, Bool, List, Option}
 use Rattle.std.specs.Prelude.{count_by, if◌then◌else◌, length, sum_by}
 use Rattle.std.specs.Cmp.{IsEquivalence}
 use Rattle.waff_model.specs.Tree.{Node}
 use Rattle.waff_model.specs.declared.message.Version.{Version}
 use Rattle.waff_assign.specs.Order.{Relation}
-use Rattle.waff_plan.specs.Obeys.{FollowsEarlier, Obeys}
+use Rattle.waff_plan.specs.Obeys.{AwaitsEarlier, Obeys}
 use Rattle.waff_plan.specs.Serving.{started_before}
 use Rattle.waff_plan.specs.Unique.{AreSame}
 use Rattle.waff_plan.specs.Waited.{IsWaitedFor}
-use Rattle.waff_plan.specs.Work.{Work, IsNumber, finish_of, issue_of}
+use Rattle.waff_plan.specs.Work.{Work, IsAwaited, IsNumber, finish_of, holds_until, issue_of}
 use Rattle.waff_figures.specs.Figures.{waits_of}
 use Rattle.waff_figures.specs.Waits.{AreWaits, ready_of}
 use Rattle.waff_figures.specs.WaitRows.{AreRows, same_kind}
@@ -38,12 +38,12 @@ WaitsAddUp before work start =
     → sum_by (λ wait. if wait.message == m then wait.ticks else 0) waits
     ≡ start m - issue_of work start m
 
--- waiting for the own client is no wait: a message that starts its think time after the finish of the
--- message that it follows waits for nobody
+-- waiting for the own client is no wait: a message that starts as soon as one that it awaits holds it
+-- back no longer waits for nobody
 abbrev pub OwnClientIsNoWait : Relation → Work → (ℕ → ℕ) → Type 0
 OwnClientIsNoWait before work start =
     (waits : List Wait) (i m : ℕ) → AreWaits before work start waits → Obeys before work start
-    → IsNumber work m → work.follows m ≡ Some i → start m ≡ finish_of work start i + work.think m
+    → IsNumber work m → IsAwaited (work.awaits m) i → start m ≡ holds_until work start m i
     → All (λ wait. wait.message ≢ m) waits
 
 -- each wait is told of in one row
@@ -64,7 +64,7 @@ TicksAddUp before work start =
 abbrev pub RowsAreOne : Version → List Node → List ℕ → Work → Type 0
 RowsAreOne version tree assigned work =
     (alike : ℕ → ℕ → Bool) (start other : ℕ → ℕ) (waits other_waits : List Wait)
-    (rows other_rows : List Row) → length assigned ≡ work.count → FollowsEarlier work
+    (rows other_rows : List Row) → length assigned ≡ work.count → AwaitsEarlier work
     → AreSame work start other
     → AreWaits (started_before version tree assigned start) work start waits
     → AreWaits (started_before version tree assigned other) work other other_waits

@@ -23,7 +23,8 @@ pub fn waits_add_up()
         (start : ℕ → ℕ) → WaitsAddUp (started_before version tree assigned start) work start }
 {}
 
-/// In a plan that obeys, a message that starts as soon as its client may issue it waits for nobody.
+/// In a plan that obeys, a message that starts as soon as one that it awaits holds it back no longer waits for
+/// nobody.
 pub fn own_client_is_no_wait()
     ensures { (version : Version) (tree : List Node) (assigned : List ℕ) (work : Work)
         (start : ℕ → ℕ) → OwnClientIsNoWait (started_before version tree assigned start) work start }

@@ -1,9 +1,9 @@
 //! The text that tells who waits for whom.
 
-ghost use Rattle.std.specs.Prelude.{◌≡◌, All, IfOk, IfSome, List, OnOk, length};
+ghost use Rattle.std.specs.Prelude.{◌≡◌, true, All, IfOk, IfSome, List, OnOk, length};
 ghost use Rattle.std.specs.Prelude.{map, string_bytes, []};
 ghost use Rattle.waff_assign.specs.Order.{affinity_name};
-ghost use Rattle.waff_model.specs.declared.message.Version.TheVariants.{V3};
+ghost use Rattle.waff_model.specs.Versions.{has_clients};
 ghost use Rattle.waff_plan.specs.Obeys.{Obeys};
 ghost use Rattle.waff_plan.specs.Planned.{planned_order, planned_pairs, planned_starts};
 ghost use Rattle.waff_plan.specs.Planned.{planned_work};
@@ -33,7 +33,7 @@ pub fn waiting_text(
     planned: &Planned<'_>,
     grouping: Grouping,
 ) -> Result<String, AllocError>
-    requires served { planned.now.plan.now.version ≡ V3
+    requires served { has_clients planned.now.plan.now.version ≡ true
         → Obeys (planned_order planned.now) (planned_work planned.now) (planned_starts planned.now) }
     ensures { IfOk result (λ text. (waits : List WaitOf) × (rows : List RowOf)
         × AreWaits (planned_pairs planned.now) (planned_work planned.now)
@@ -56,7 +56,7 @@ fn waiting_rows(
     planned: &Planned<'_>,
     grouping: Grouping,
 ) -> Result<Vec<Row>, AllocError>
-    requires served { planned.now.plan.now.version ≡ V3
+    requires served { has_clients planned.now.plan.now.version ≡ true
         → Obeys (planned_order planned.now) (planned_work planned.now) (planned_starts planned.now) }
     ensures rows { IfOk result (λ rows. (waits : List WaitOf)
         × AreWaits (planned_pairs planned.now) (planned_work planned.now)

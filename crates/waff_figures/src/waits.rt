@@ -1,8 +1,8 @@
 //! Who waits for whom: the waits of a plan.
 
-ghost use Rattle.std.specs.Prelude.{◌≡◌, ◌++◌, All, IfOk, OnOk, IfSome, length};
+ghost use Rattle.std.specs.Prelude.{◌≡◌, ◌++◌, true, All, IfOk, OnOk, IfSome, length};
 ghost use Rattle.std.specs.List.{AllPairs};
-ghost use Rattle.waff_model.specs.declared.message.Version.TheVariants.{V3};
+ghost use Rattle.waff_model.specs.Versions.{has_clients};
 ghost use Rattle.waff_plan.specs.Obeys.{Obeys};
 ghost use Rattle.waff_plan.specs.Planned.{planned_order, planned_pairs, planned_starts};
 ghost use Rattle.waff_plan.specs.Planned.{planned_work};
@@ -29,7 +29,7 @@ pub struct Wait {
 /// All waits of the plan, in the order of the messages; that for a message comes before that for a
 /// worker. A plan of a trace with clients has to obey.
 pub(crate) fn waits(alloc: Global, planned: &Planned<'_>) -> Result<Vec<Wait>, AllocError>
-    requires served { planned.now.plan.now.version ≡ V3
+    requires served { has_clients planned.now.plan.now.version ≡ true
         → Obeys (planned_order planned.now) (planned_work planned.now) (planned_starts planned.now) }
     ensures waits { IfOk result (λ waits. AreWaits (planned_pairs planned.now)
         (planned_work planned.now) (planned_starts planned.now) waits.items) }

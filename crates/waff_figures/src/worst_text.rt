@@ -1,10 +1,10 @@
 //! The text that tells of the messages that take longest.
 
-ghost use Rattle.std.specs.Prelude.{◌≡◌, ◌-◌, [], ◌∷◌, ◌++◌, ℕ, All, IfOk, IfSome, List, None};
+ghost use Rattle.std.specs.Prelude.{◌≡◌, ◌-◌, [], ◌∷◌, ◌++◌, ℕ, true, All, IfOk, IfSome, List, None};
 ghost use Rattle.std.specs.Prelude.{OnOk, Option, decimal, length, map, slice_index_or};
 ghost use Rattle.std.specs.Prelude.{string_bytes};
 ghost use Rattle.waff_assign.specs.Order.{affinity_name};
-ghost use Rattle.waff_model.specs.declared.message.Version.TheVariants.{V3};
+ghost use Rattle.waff_model.specs.Versions.{has_clients};
 ghost use Rattle.waff_plan.specs.Obeys.{Obeys};
 ghost use Rattle.waff_plan.specs.Planned.{planned_order, planned_pairs, planned_starts};
 ghost use Rattle.waff_plan.specs.Planned.{planned_work};
@@ -37,7 +37,7 @@ pub fn worst_messages_text(
     planned: &Planned<'_>,
     most: u32,
 ) -> Result<String, AllocError>
-    requires served { planned.now.plan.now.version ≡ V3
+    requires served { has_clients planned.now.plan.now.version ≡ true
         → Obeys (planned_order planned.now) (planned_work planned.now) (planned_starts planned.now) }
     ensures { IfOk result (λ text. (waited : List (Option ℕ)) × (worst : List ℕ)
         × AreWaitedFor (planned_pairs planned.now) (planned_work planned.now)

@@ -1,5 +1,5 @@
 -- What the data say of every tree of affinities, and what limits say of all plans.
-use Rattle.std.specs.Prelude.{◌≡◌, ℕ, ◌+◌, ◌≤◌, max, All, Bool, true, false, List, Option, None, IfSome, length, map, option_map}
+use Rattle.std.specs.Prelude.{◌≡◌, ℕ, ◌+◌, ◌≤◌, max, All, Bool, true, false, List, Option, None, IfSome, length, map}
 use Rattle.std.specs.List.{range_with_len}
 use Rattle.waff_model.specs.Layout.{Hierarchy, IsCell, IsLayout}
 use Rattle.waff_model.specs.Messages.{IsTrace, no_client, sizes_of}
@@ -11,7 +11,7 @@ use Rattle.waff_assign.specs.Lowest.{IsAssignment}
 use Rattle.waff_plan.specs.Bound.{IsWorkers}
 use Rattle.waff_plan.specs.Instances.{served_first, work_of_instance}
 use Rattle.waff_plan.specs.LowerBound.{ObeysInSomeOrder, client_finish, lower_bound_of, path_cost, share_in}
-use Rattle.waff_plan.specs.Obeys.{FollowsEarlier, IsLeast, Obeys}
+use Rattle.waff_plan.specs.Obeys.{AwaitsEarlier, IsLeast, Obeys}
 use Rattle.waff_plan.specs.ServesAs.{ServesAs}
 use Rattle.waff_plan.specs.Timetable.{work_of_messages}
 use Rattle.waff_plan.specs.Unique.{AreSame}
@@ -99,12 +99,12 @@ PathIsReached instance =
     → (other : ℕ → ℕ) × ObeysInSomeOrder instance.tree instance.assigned (work_of_instance instance) None other
     × (length_of (work_of_instance instance) other ≡ limits.path.ticks)
 
--- a message that waits for its client alone has finished its cost after its issue
+-- a message that waits for what it awaits alone has finished its cost after its issue
 abbrev pub ClientsFinish : Work → Type 0
 ClientsFinish work =
-    FollowsEarlier work → (m : ℕ) → IsNumber work m
+    AwaitsEarlier work → (m : ℕ) → IsNumber work m
     → client_finish work m
-    ≡ issue_after (work.floor m) (work.think m) (option_map (client_finish work) (work.follows m)) + work.cost m
+    ≡ issue_after (client_finish work) (work.floor m) (work.awaits m) + work.cost m
 
 -- what limits a workload is one
 abbrev pub LimitsAreOne : Instance → Type 0

@@ -63,8 +63,8 @@ pub fn path_is_reached()
     tree_is_reached();
 }
 
-/// What a client needs: each of its messages has finished its cost after its issue, which is its floor, or where that is later its think time
-/// after the one that it follows.
+/// What a client needs: each of its messages has finished its cost after its issue, which is its floor, or where that is later the latest
+/// finish of a message that it awaits, with its gap.
 pub fn clients_finish()
     ensures { (work : Work) → ClientsFinish work }
 {}

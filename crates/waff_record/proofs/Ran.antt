@@ -1,13 +1,13 @@
 -- What the turns of a run say, message by message.
-use Rattle.std.proofs.Common.{◌≡◌, ◌≢◌, ℕ, zero, suc, ◌-◌, ◌<◌, ◌≤◌, inl, inr, List, [], ◌∷◌, length, map, get_or, Option, Some, None, option_map, arith, refl, sym, ◌∙◌, ap, subst}
+use Rattle.std.proofs.Common.{◌≡◌, ◌≢◌, ℕ, zero, suc, ◌-◌, ◌<◌, ◌≤◌, inl, inr, List, [], ◌∷◌, length, map, get_or, arith, refl, sym, ◌∙◌, ap, subst}
 use Rattle.waff_model.specs.Tree.{Excludes}
 use Rattle.waff_model.specs.declared.message.Version.{Version}
 use Rattle.waff_model.specs.declared.message.Version.TheVariants.{V1, V2, V3}
 use Rattle.waff_assign.specs.Order.{affinity_of}
-use Rattle.waff_plan.specs.Obeys.{FollowsEarlier}
+use Rattle.waff_plan.specs.Obeys.{AwaitsEarlier}
 use Rattle.waff_plan.specs.Serving.{served_before}
-use Rattle.waff_plan.specs.Work.{IsAmongFirst, finish_of, issue_after, issue_of}
-use Rattle.waff_plan.proofs.Holding.{followed-le-issue}
+use Rattle.waff_plan.specs.Work.{IsAmongFirst, IsAwaited, finish_of, issue_of}
+use Rattle.waff_plan.proofs.Holding.{awaited-le-issue, issue_again}
 use Rattle.waff_plan.proofs.StartOrder.{apart_finish}
 use Rattle.waff_line.specs.Machine.{Course, finish_in, measured, start_in, turn_of}
 use Rattle.waff_line.specs.Machine as machine
@@ -78,33 +78,28 @@ module _ (course : Course) (turns : List Turn) (ran : AreRunTurns course turns) 
       (omega (arith, i_start, j_start, sooner)) in
       omega (arith, done, i_start, j_start, i_finish, runs)
 
-  -- what a message follows ended before it began
-  pub ran_after : (i m : ℕ) → 1 ≤ i → IsAmongFirst course.work.count m → course.work.follows m ≡ Some i
+  -- what a message awaits ended before it began
+  pub ran_after : (i m : ℕ) → 1 ≤ i → IsAmongFirst course.work.count m → IsAwaited (course.work.awaits m) i
       → (turn_at turns i).finish ≤ (turn_at turns m).start
-  ran_after i m from number follows =
+  ran_after i m from number awaited =
       let issued = ran.planned.plan.obeys.issued m number in
-      let held = followed-le-issue (measured course ran.state) (start_in ran.state) i m follows in
+      let held = awaited-le-issue (measured course ran.state) (start_in ran.state) i m awaited in
       omega (arith, issued, held, finish_is i from, start_is m number.from)
 
   -- issues are those of the state
-  same_after : (floor think : ℕ) (follows : Option ℕ) (f g : ℕ → ℕ) → ((i : ℕ) → follows ≡ Some i → f i ≡ g i)
-      → issue_after floor think (option_map f follows) ≡ issue_after floor think (option_map g follows)
-  same_after floor think None f g same = refl
-  same_after floor think (Some i) f g same = ap (λ finish. issue_after floor think (Some finish)) (same i refl)
-
-  pub issue_seen : FollowsEarlier course.work → (m : ℕ)
+  pub issue_seen : AwaitsEarlier course.work → (m : ℕ)
       → issue_of (measured course ran.state) (start_in ran.state) m ≡ issue_of (measured_by course turns) (λ n. (turn_at turns n).start) m
   issue_seen earlier m =
-      same_after (course.work.floor m) (course.work.think m) (course.work.follows m)
-      (finish_of (measured course ran.state) (start_in ran.state)) (finish_of (measured_by course turns) (λ n. (turn_at turns n).start))
-      (λ i follows.
-      let from = (earlier i m follows).from in
+      issue_again (finish_of (measured course ran.state) (start_in ran.state)) (finish_of (measured_by course turns) (λ n. (turn_at turns n).start))
+      (course.work.floor m) (course.work.awaits m)
+      (λ i awaited.
+      let from = (earlier i m awaited).from in
       let one = start_is i from in
       let two = finish_is i from in
       omega (arith, one, two))
 
   -- the order of the run is that of the state
-  order_seen : FollowsEarlier course.work → (version : Version) → (i j : ℕ)
+  order_seen : AwaitsEarlier course.work → (version : Version) → (i j : ℕ)
       → served_before version course.tree course.assigned (measured_by course turns) (λ n. (turn_at turns n).start) i j
       → served_before version course.tree course.assigned (measured course ran.state) (start_in ran.state) i j
   order_seen earlier V1 i j pair = pair
@@ -123,7 +118,7 @@ module _ (course : Course) (turns : List Turn) (ran : AreRunTurns course turns) 
   }
 
   -- what was served first ended before the other began
-  pub ran_order : FollowsEarlier course.work → (i j : ℕ) → 1 ≤ i → 1 ≤ j → run_order course turns i j
+  pub ran_order : AwaitsEarlier course.work → (i j : ℕ) → 1 ≤ i → 1 ≤ j → run_order course turns i j
       → (turn_at turns i).finish ≤ (turn_at turns j).start
   ran_order earlier i j from second pair =
       let done = ran.planned.plan.obeys.ordered i j (order_seen earlier course.version i j pair) in

@@ -5,10 +5,10 @@ use Rattle.std.specs.List.{range_with_len}
 use Rattle.std.proofs.lemmas.Bool.{cases_eq}
 use Rattle.std.proofs.lemmas.List.FromFn.{map-range_with_len_more}
 use Rattle.waff_assign.specs.Case.{instance_of}
-use Rattle.waff_plan.specs.Obeys.{FollowsEarlier}
+use Rattle.waff_plan.specs.Obeys.{AwaitsEarlier}
 use Rattle.waff_plan.specs.ServesAs.{ObeysApart}
 use Rattle.waff_plan.specs.Timetable.{Timetable, starts_in, work_in}
-use Rattle.waff_plan.specs.Work.{Work, IsAmongFirst, IsNumber, finish_of, greatest, length_of}
+use Rattle.waff_plan.specs.Work.{Work, IsAmongFirst, IsAwaited, IsNumber, finish_of, greatest, length_of}
 use Rattle.waff_plan.proofs.TimingLemmas.{length-timings_of}
 use Rattle.waff_plan_text.specs.Given.{Given}
 use Rattle.waff_check.specs.Verdicts.{Claim, start_in, work_of_claim}
@@ -64,10 +64,10 @@ finishes_alike f g (suc n) same =
     ∙ (sym (map-range_with_len_more g 1 n (suc n) (omega arith)) ∙ sym (ap (λ k. map g (range_with_len 1 k)) next)))))
 
 -- the course of a run
-module _ (run : RunTurns) (plan : Timetable) (ran : HasRun run) (told : IsToldOf run plan) (earlier : FollowsEarlier (work_in plan)) where
-  ticks_earlier : FollowsEarlier (ticks_run run)
-  ticks_earlier i m follows =
-      let at = earlier i m (told.work_is.follows m ∙ follows) in
+module _ (run : RunTurns) (plan : Timetable) (ran : HasRun run) (told : IsToldOf run plan) (earlier : AwaitsEarlier (work_in plan)) where
+  ticks_earlier : AwaitsEarlier (ticks_run run)
+  ticks_earlier i m awaited =
+      let at = earlier i m (subst (λ awaits. IsAwaited awaits i) (sym (told.work_is.awaits m)) awaited) in
       record { from = at.from; earlier = at.earlier; to = omega (arith, at.to, told.work_is.count) }
 
   pub is_course : IsRunCourse (course_run run) (ticks_run run) run.tick

@@ -3,7 +3,7 @@ use Rattle.std.proofs.Common.{◌≡◌, ℕ, ◌+◌, ◌-◌, ◌/◌, ◌<◌
 use Rattle.std.proofs.Math.ListN.{get_or-map}
 use Rattle.waff_assign.specs.Order.{affinity_of}
 use Rattle.waff_plan.specs.ByStart.{AreByStart, started_at}
-use Rattle.waff_plan.specs.Obeys.{FollowsEarlier}
+use Rattle.waff_plan.specs.Obeys.{AwaitsEarlier}
 use Rattle.waff_plan.specs.Table.{IsLatestExcluding}
 use Rattle.waff_plan.specs.Timetable.{Timetable, starts_in, timings_of, with_turn, work_in}
 use Rattle.waff_plan.specs.Timing.{start_of, work_of}
@@ -65,11 +65,11 @@ module _ (run : RunTurns) (ran : HasRun run) (began : List Started) (begun : Are
       subst (λ (t : Turn). IsAmongFirst run.workers t.worker) (sym is)
       (ran_there (course_run run) run.turns.now ran m (number_of (course_run run).work.count counted place m less here))
 
-  module _ (timings : List Timing) (timings_are : timings ≡ timings_of run.case.trace.now.messages) (earlier : FollowsEarlier (work_of timings)) where
+  module _ (timings : List Timing) (timings_are : timings ≡ timings_of run.case.trace.now.messages) (earlier : AwaitsEarlier (work_of timings)) where
     pub is_run : IsRunCourse (course_run run) (ticks_run run) run.tick
     is_run = record {
       work_is = refl;
-      earlier = subst (λ (ts : List Timing). FollowsEarlier (work_of ts)) timings_are earlier;
+      earlier = subst (λ (ts : List Timing). AwaitsEarlier (work_of ts)) timings_are earlier;
       many = run.case.lengths ∙ sym (length-timings_of run.case.trace.now.messages);
     }
 
@@ -148,4 +148,4 @@ module _ (run : RunTurns) (ran : HasRun run) (began : List Started) (begun : Are
 pub costs_first : (run : RunTurns) (plan : Timetable) → plan.timings ≡ timings_of run.case.trace.now.messages → HasOtherCosts (ticks_run run) (work_in plan)
 costs_first run plan is =
     subst (λ (ts : List Timing). HasOtherCosts (ticks_run run) (work_of ts)) (sym is)
-    (record { count = refl; floor = λ m. refl; follows = λ m. refl; think = λ m. refl })
+    (record { count = refl; floor = λ m. refl; awaits = λ m. refl })

@@ -1,5 +1,5 @@
 -- The rounding of the turns of a run is a plan that obeys.
-use Rattle.std.proofs.Common.{◌≡◌, ℕ, ◌-◌, ◌<◌, ◌≤◌, ◌⊎◌, inl, inr, true, List, length, arith, sym, ◌∙◌, ap}
+use Rattle.std.proofs.Common.{◌≡◌, ℕ, ◌-◌, ◌<◌, ◌≤◌, ◌⊎◌, inl, inr, true, List, length, arith, sym, ◌∙◌, ap, subst}
 use Rattle.std.proofs.lemmas.Bool.{cases_lt}
 use Rattle.std.proofs.lemmas.Option.{same_Some}
 use Rattle.waff_model.specs.Tree.{Excludes}
@@ -7,7 +7,7 @@ use Rattle.waff_model.specs.declared.message.Version.{Version}
 use Rattle.waff_model.specs.declared.message.Version.TheVariants.{V1, V2, V3}
 use Rattle.waff_assign.specs.Order.{IsOrdered, affinity_of}
 use Rattle.waff_plan.specs.Apart.{AreApart}
-use Rattle.waff_plan.specs.Obeys.{FollowsEarlier}
+use Rattle.waff_plan.specs.Obeys.{AwaitsEarlier}
 use Rattle.waff_plan.specs.Serving.{served_before}
 use Rattle.waff_plan.specs.Work.{Work, IsAmongFirst, IsNumber, finish_of}
 use Rattle.waff_plan.specs.Workers.{running, runs_at}
@@ -16,6 +16,7 @@ use Rattle.waff_plan.proofs.Exclusion.{excludes_back}
 use Rattle.waff_line.specs.Machine.{Course}
 use Rattle.waff_line.specs.Turns.{AreRunTurns}
 use Rattle.waff_line.specs.declared.turn.Turn.{Turn}
+use Rattle.waff_line.proofs.Scaling.{earlier_scaled}
 use Rattle.waff_line.proofs.Seating.{few_run}
 use Rattle.waff_record.specs.Laws.{IsRunCourse, RoundingTells, measured_by, run_order}
 use Rattle.waff_record.specs.Rounded.{GoesBefore, IsRounded}
@@ -29,8 +30,8 @@ module _ (course : Course) (ticks : Work) (tick : ℕ) (turns : List Turn) (is :
   pub many_is : length course.assigned ≡ course.work.count
   many_is = is.many ∙ sym count_is
 
-  pub earlier_is : FollowsEarlier course.work
-  earlier_is = rw is.work_is (λ i m follows. let at = is.earlier i m follows in record { from = at.from; earlier = at.earlier; to = at.to })
+  pub earlier_is : AwaitsEarlier course.work
+  earlier_is = subst AwaitsEarlier (sym is.work_is) (earlier_scaled tick ticks is.earlier)
 
   -- of two messages one of which ended before the other began, and which exclude each other or ran on one worker, it goes before the other
   pub goes_before : (i j : ℕ) → IsAmongFirst course.work.count i → (turn_at turns i).finish ≤ (turn_at turns j).start

@@ -2,7 +2,7 @@
 use Rattle.std.specs.Prelude.{◌≡◌, ℕ, ◌-◌, ◌≤◌, List, length}
 use Rattle.waff_assign.specs.Order.{IsOrdered, Relation}
 use Rattle.waff_plan.specs.Apart.{AreApart}
-use Rattle.waff_plan.specs.Obeys.{EachRuns, FollowsEarlier, KeepsOrder, StartsIssued}
+use Rattle.waff_plan.specs.Obeys.{EachRuns, AwaitsEarlier, KeepsOrder, StartsIssued}
 use Rattle.waff_plan.specs.Serving.{served_before}
 use Rattle.waff_plan.specs.Work.{Work, IsNumber, finish_of}
 use Rattle.waff_plan.specs.Workers.{running}
@@ -20,8 +20,7 @@ measured_by course turns = record {
   count = course.work.count;
   cost = λ n. (turn_at turns n).finish - (turn_at turns n).start;
   floor = course.work.floor;
-  follows = course.work.follows;
-  think = course.work.think;
+  awaits = course.work.awaits;
 }
 
 -- the order in which a run served messages that exclude each other: that of their issues, in nanoseconds, and before the
@@ -43,10 +42,10 @@ pub record TellsTurns (course : Course) (turns : List Turn) (work : Work) (start
   pub seated : AreOneAtATime work start (worker_of turns) course.workers
   pub apart : AreApart (IsOrdered course.tree course.assigned) work start
 
--- a course of a run: each message follows an earlier one or none, and each has an affinity
+-- a course of a run: each message awaits earlier ones or none, and each has an affinity
 pub record IsRunCourse (course : Course) (ticks : Work) (tick : ℕ) : Type 0 where
   pub work_is : course.work ≡ scaled tick ticks
-  pub earlier : FollowsEarlier ticks
+  pub earlier : AwaitsEarlier ticks
   pub many : length course.assigned ≡ ticks.count
 
 -- the rounding of the turns of a run is such a plan

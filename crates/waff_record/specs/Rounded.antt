@@ -34,8 +34,7 @@ pub record IsTold (course : Course) (tick : ℕ) (turns : List Turn) (work : Wor
 pub record HasOtherCosts (work other : Work) : Type 0 where
   pub count : other.count ≡ work.count
   pub floor : (m : ℕ) → other.floor m ≡ work.floor m
-  pub follows : (m : ℕ) → other.follows m ≡ work.follows m
-  pub think : (m : ℕ) → other.think m ≡ work.think m
+  pub awaits : (m : ℕ) → other.awaits m ≡ work.awaits m
 
 -- the rounding of turns, whose ticks are so many nanoseconds: the work, with the costs that are told, and the starts
 pub record IsRounded (course : Course) (ticks : Work) (tick : ℕ) (turns : List Turn) (work : Work) (start : ℕ → ℕ)

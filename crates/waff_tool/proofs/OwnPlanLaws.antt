@@ -1,8 +1,8 @@
 -- The plans that are printed pass the check.
-use Rattle.std.proofs.Common.{◌≡◌, ◌≢◌, ℕ, ◌+◌, ◌-◌, ◌*◌, ◌<◌, ◌≤◌, inl, inr, Bool, true, false, List, [], ◌∷◌, length, get_or, slice_index, cond, eqb, count_by, Option, Some, None, IfSome, refl, sym, ap, ◌∙◌, arith, subst}
+use Rattle.std.proofs.Common.{◌≡◌, ◌≢◌, ℕ, ◌+◌, ◌-◌, ◌*◌, ◌<◌, ◌≤◌, inl, inr, Bool, true, false, List, [], ◌∷◌, length, get_or, slice_index, cond, count_by, Option, Some, None, IfSome, refl, sym, ap, ◌∙◌, arith, subst}
 use Rattle.std.specs.Prelude.{All, nat_le, nat_lt, ◌&&◌, sum_by, unwrap_or, option_map}
 use Rattle.std.specs.List.{range_with_len}
-use Rattle.std.proofs.lemmas.Bool.{and_from, and_parts, cases_lt, cases_order, cond_both, le-leb, leb-true, lt-ltb, ltb-true}
+use Rattle.std.proofs.lemmas.Bool.{and_from, and_parts, cases_lt, cases_order, le-leb, leb-true, lt-ltb, ltb-true}
 use Rattle.std.proofs.lemmas.List.{get_or_default}
 use Rattle.std.proofs.lemmas.List.Elements.{All-head, All-tail}
 use Rattle.std.proofs.lemmas.List.FromFn.{get_or-map-range_with_len, get_or-range_with_len, length-map-range_with_len, length-range_with_len}
@@ -14,6 +14,7 @@ use Rattle.waff_model.proofs.TraceLemmas.{few_messages}
 use Rattle.waff_model.specs.Names.{is_name}
 use Rattle.waff_model.specs.Tree.{IsTree, Node, name_of}
 use Rattle.waff_model.specs.declared.limits.TheConstants.{MAX_COST, MAX_MESSAGES, MAX_RELEASE, MAX_THINK, MAX_TICK, MAX_WORKERS}
+use Rattle.waff_model.specs.Versions.{has_clients}
 use Rattle.waff_model.specs.declared.message.Version.{Version}
 use Rattle.waff_model.specs.declared.message.Version.TheVariants.{V1, V2, V3}
 use Rattle.waff_read.proofs.FaultLaws.{trace_is_exact}
@@ -25,11 +26,11 @@ use Rattle.waff_assign.proofs.Knowing.{affinity_known}
 use Rattle.waff_plan.specs.Bound.{IsWorkers, left_side, right_side}
 use Rattle.waff_plan.specs.Chain.{IsChain, IsListed, chain_cost, chain_release, gaps_after}
 use Rattle.waff_plan.specs.Instances.{served_first, started_first, work_of_instance}
-use Rattle.waff_plan.specs.Obeys.{FollowsNone, IsForward, Obeys}
+use Rattle.waff_plan.specs.Obeys.{AwaitsNone, IsForward, Obeys}
 use Rattle.waff_plan.specs.Timetable.{timings_of, work_of_messages}
-use Rattle.waff_plan.specs.Timing.{no_timing, start_of}
+use Rattle.waff_plan.specs.Timing.{start_of}
 use Rattle.waff_plan.specs.Totals.{totals_of}
-use Rattle.waff_plan.specs.Work.{IsAmongFirst, Work, IsNumber, finish_of, gap_after, gap_of, length_of, numbers, total_of}
+use Rattle.waff_plan.specs.Work.{IsAmongFirst, Work, IsNumber, finish_of, gap_of, length_of, numbers, total_of}
 use Rattle.waff_plan.specs.Workers.{running, runs_at}
 use Rattle.waff_plan.proofs.Linkings.{chain_is_few, chain_is_numbers}
 use Rattle.waff_plan.proofs.Longest.{finish_of-le-length_of}
@@ -69,8 +70,8 @@ record IsModest (version : Version) (work : Work) : Type 0 where
   some_cost : (m : ℕ) → IsNumber work m → 1 ≤ work.cost m
   cost : (m : ℕ) → IsNumber work m → work.cost m ≤ MAX_COST
   floor : (m : ℕ) → IsNumber work m → work.floor m ≤ MAX_RELEASE
-  think : (m : ℕ) → IsNumber work m → work.think m ≤ MAX_THINK
-  alone : version ≡ V1 → FollowsNone work
+  gap : (i m : ℕ) → IsNumber work m → gap_of work i m ≤ MAX_THINK
+  alone : version ≡ V1 → AwaitsNone work
   no_release : version ≡ V1 → (m : ℕ) → IsNumber work m → work.floor m ≡ 0
 
 -- the first version is not the third
@@ -90,8 +91,8 @@ modest trace is_trace =
       some_cost = small.some_cost;
       cost = small.cost;
       floor = small.floor;
-      think = λ m number. let timing = are.small (m - 1) no_timing (omega (arith, number.from, number.to)) in timing.think;
-      alone = λ first. are.alone (first_is_early trace.version first);
+      gap = small.gap;
+      alone = λ first. are.alone (ap has_clients first);
       no_release = λ first m number.
           let among : IsAmongFirst (length messages) m = record { from = number.from; to = omega (arith, number.to, count) } in
           let message = message_at trace is_trace m among in
@@ -107,19 +108,13 @@ few_costs f (x ∷ xs) each =
     let rest = few_costs f xs (All-tail (λ m. f m ≤ MAX_COST) x xs each) in
     omega (arith, first, rest, sum_by-cons f x xs)
 
--- a gap is no longer than the think time
-gap_small : (think i : ℕ) (follows : Option ℕ) → gap_after think i follows ≤ think
-gap_small think i None = omega arith
-gap_small think i (Some f) = cond_both (eqb f i) think 0 (λ g. g ≤ think) (λ same. omega arith) (λ other. omega arith)
-
 -- gaps within the limit
-few_gaps : (work : Work) → ((m : ℕ) → IsNumber work m → work.think m ≤ MAX_THINK) → (m : ℕ) (rest : List ℕ) → All (IsNumber work) rest
+few_gaps : (work : Work) → ((i m : ℕ) → IsNumber work m → gap_of work i m ≤ MAX_THINK) → (m : ℕ) (rest : List ℕ) → All (IsNumber work) rest
     → gaps_after work m rest ≤ length rest * MAX_THINK
-few_gaps work thinks m [] numbers = omega arith
-few_gaps work thinks m (next ∷ rest) numbers =
-    let gap : gap_of work m next ≤ work.think next = gap_small (work.think next) m (work.follows next) in
-    let think = thinks next (All-head (IsNumber work) next rest numbers) in
-    omega (arith, gap, think, few_gaps work thinks next rest (All-tail (IsNumber work) next rest numbers))
+few_gaps work gaps m [] numbers = omega arith
+few_gaps work gaps m (next ∷ rest) numbers =
+    let gap = gaps m next (All-head (IsNumber work) next rest numbers) in
+    omega (arith, gap, few_gaps work gaps next rest (All-tail (IsNumber work) next rest numbers))
 
 module _ (version : Version) (before : Relation) (work : Work) (modest : IsModest version work) (forward : IsForward before work)
     (chain : List ℕ) (is_chain : IsChain before work chain) where
@@ -140,7 +135,7 @@ module _ (version : Version) (before : Relation) (work : Work) (modest : IsModes
   release_of [] numbers = omega arith
   release_of (m ∷ rest) numbers =
       let first = modest.floor m (All-head (IsNumber work) m rest numbers) in
-      omega (arith, first, few_gaps work modest.think m rest (All-tail (IsNumber work) m rest numbers))
+      omega (arith, first, few_gaps work modest.gap m rest (All-tail (IsNumber work) m rest numbers))
 
   no_release_of : version ≡ V1 → (chain : List ℕ) → All (IsNumber work) chain → chain_release work chain ≡ 0
   no_release_of first [] numbers = refl

@@ -7,7 +7,7 @@ use Rattle.waff_assign.specs.Instance.{Instance}
 use Rattle.waff_assign.specs.Order.{IsOrdered, Relation}
 use Rattle.waff_plan.specs.Chain.{IsPrinted, LeadsToEnd}
 use Rattle.waff_plan.specs.Instances.{served_first, started_first, work_of_instance}
-use Rattle.waff_plan.specs.Obeys.{FollowsEarlier, IsForward, IsLeast, IsLinked, StartsIssued}
+use Rattle.waff_plan.specs.Obeys.{AwaitsEarlier, IsForward, IsLeast, IsLinked, StartsIssued}
 use Rattle.waff_plan.specs.Serving.{started_before}
 use Rattle.waff_plan.specs.Unique.{AreSame}
 use Rattle.waff_plan.specs.Work.{Work}
@@ -34,11 +34,11 @@ pub record IsSound (instance : Instance) : Type 0 where
 module _ (before again : Relation) (work : Work) (start : ℕ → ℕ) (to : (i j : ℕ) → before i j → again i j) (from : (i j : ℕ) → again i j → before i j) where
   linked_to : (i m : ℕ) → IsLinked before work i m → IsLinked again work i m
   linked_to i m (inl pair) = inl (to i m pair)
-  linked_to i m (inr follow) = inr follow
+  linked_to i m (inr awaited) = inr awaited
 
   linked_from : (i m : ℕ) → IsLinked again work i m → IsLinked before work i m
   linked_from i m (inl pair) = inl (from i m pair)
-  linked_from i m (inr follow) = inr follow
+  linked_from i m (inr awaited) = inr awaited
 
   leads_again : (m : ℕ) (rest : List ℕ) → LeadsToEnd before work start m rest → LeadsToEnd again work start m rest
   leads_again m [] last = last
@@ -57,14 +57,14 @@ module _ (before again : Relation) (work : Work) (start : ℕ → ℕ) (to : (i 
   printed_again (m ∷ rest) (first, leads) = ((λ i linked. first i (linked_from i m linked)), leads_again m rest leads)
 
 -- the order of chains goes forward
-forward_by : (version : Version) (tree : List Node) (assigned : List ℕ) (work : Work) → length assigned ≡ work.count → FollowsEarlier work → EachRuns work
+forward_by : (version : Version) (tree : List Node) (assigned : List ℕ) (work : Work) → length assigned ≡ work.count → AwaitsEarlier work → EachRuns work
     → (start : ℕ → ℕ) → StartsIssued work start → IsForward (started_before version tree assigned start) work
 forward_by V1 tree assigned work count follows runs start issued = IsOrdered_forward tree assigned work count follows
 forward_by V2 tree assigned work count follows runs start issued = IsOrdered_forward tree assigned work count follows
 forward_by V3 tree assigned work count follows runs start issued = IsStartedBefore_forward tree assigned work count runs start issued follows
 
 -- the plan by a rule
-rule_by : (version : Version) (rule : Rule) (tree : List Node) (assigned : List ℕ) (work : Work) → length assigned ≡ work.count → FollowsEarlier work
+rule_by : (version : Version) (rule : Rule) (tree : List Node) (assigned : List ℕ) (work : Work) → length assigned ≡ work.count → AwaitsEarlier work
     → EachRuns work → (k : ℕ) (start other : ℕ → ℕ) → IsPlanServed version rule tree assigned work k start
     → IsPlanServed version rule tree assigned work k other → AreSame work start other
 rule_by V1 rule tree assigned work count follows runs k start other one two =

@@ -38,7 +38,7 @@ pub record IsCertified (instance : Instance) (start : ℕ → ℕ) (chain : List
 -- the plan by this rule for k workers, with its printed chain: at most k messages run at each tick,
 -- and whatever the rule the plan is within the list bound of the chain, so at most twice as long as
 -- any worker plan for k that obeys the order of its chains, so any that serves alike, or 2 - 1/k times
--- where no message has a release or a think time
+-- where no message has a release or awaits another with a gap
 pub record IsBounded (rule : Rule) (instance : Instance) (k : ℕ) (start : ℕ → ℕ)
     (chain : List ℕ) : Type 0 where
   pub list : IsPlanOf rule instance k start

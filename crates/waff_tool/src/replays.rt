@@ -1,12 +1,12 @@
 //! The replay of a trace.
 
-ghost use Rattle.std.specs.Prelude.{◌≡◌, ◌≢◌, ◌^◌, ◌<◌, ◌≤◌, IfErr, IfOk, Ok};
+ghost use Rattle.std.specs.Prelude.{◌≡◌, ◌≢◌, ◌^◌, ◌<◌, ◌≤◌, false, IfErr, IfOk, Ok};
 ghost use Rattle.std.specs.Prelude.{length, string_bytes};
 ghost use Rattle.std.specs.List.{range_with_len};
 ghost use Rattle.waff_model.specs.Layout.{HasFewCells};
 ghost use Rattle.waff_model.specs.Messages.{IsTrace, sizes_of};
 ghost use Rattle.waff_model.specs.declared.cell.Cell.{Cell};
-ghost use Rattle.waff_model.specs.declared.message.Version.TheVariants.{V3};
+ghost use Rattle.waff_model.specs.Versions.{has_clients};
 ghost use Rattle.waff_assign.specs.Lowest.{IsAssignment};
 ghost use Rattle.waff_cells.specs.Grid.{cells_in, HasSizes};
 ghost use Rattle.waff_cells.specs.Serial.{operations};
@@ -267,7 +267,7 @@ fn list_order(
     k: u32,
 ) -> Result<Vec<u32>, AllocError>
     requires trace { IsTrace accepted.now.trace }
-    requires earlier_version { accepted.now.trace.version ≢ V3 }
+    requires earlier_version { has_clients accepted.now.trace.version ≡ false }
     requires assignment { IsAssignment accepted.now.layout
         accepted.now.trace.messages accepted.now.assigned }
     requires needs { AreNeeds accepted.now.layout.tree accepted.now.assigned needs.now }
