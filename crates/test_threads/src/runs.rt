@@ -12,7 +12,7 @@ use std::thread::Threads;
 use waff_inputs::accept;
 use waff_model::Cell;
 use waff_record::Recorded;
-use waff_run::{Pace, Places, RunError, Settings, Spot, Store, StoreFault, run_on};
+use waff_run::{Pace, Places, RunError, Settings, Spot, Store, StoreFault, run_on, silent_hands};
 
 /// Files of 64 bytes each, without a lock that waits: a file that somebody else holds is a fault, since the tree
 /// lets nobody run beside who writes it.
@@ -38,7 +38,15 @@ impl Memory {
 }
 
 impl Store for Memory {
-    fn read(&self, file: usize, at: u64, bytes: &mut [u8]) -> Result<(), StoreFault> {
+    type Hand = ();
+
+    fn read(
+        &self,
+        _hand: &mut (),
+        file: usize,
+        at: u64,
+        bytes: &mut [u8],
+    ) -> Result<(), StoreFault> {
         let fault = StoreFault { file };
         let Some(guard) = self.files.get(file).ok_or(fault)?.try_lock() else {
             return Err(fault);
@@ -49,7 +57,7 @@ impl Store for Memory {
         Ok(())
     }
 
-    fn write(&self, file: usize, at: u64, bytes: &[u8]) -> Result<(), StoreFault> {
+    fn write(&self, _hand: &mut (), file: usize, at: u64, bytes: &[u8]) -> Result<(), StoreFault> {
         let fault = StoreFault { file };
         let Some(mut guard) = self.files.get(file).ok_or(fault)?.try_lock() else {
             return Err(fault);
@@ -62,7 +70,7 @@ impl Store for Memory {
         Ok(())
     }
 
-    fn sync(&self, _file: usize) -> Result<(), StoreFault> {
+    fn sync(&self, _hand: &mut (), _file: usize) -> Result<(), StoreFault> {
         Ok(())
     }
 }
@@ -111,9 +119,24 @@ fn ran<R: Abort + Threads + Wait + Clock + Eprint + Sync>(
     let accepted = accept(alloc, hierarchy, trace).expect(rt, "files");
     let places = Places::of(alloc, &accepted.layout, 8).expect(rt, "places");
     let settings = settings(workers);
-    run_on(
-        rt, alloc, &accepted, hierarchy, trace, store, &places, &settings,
-    )
+    let count = accepted.trace.len() as usize;
+    let hands = silent_hands(alloc, count).expect(rt, "memory");
+    let ran = run_on(
+        rt,
+        alloc,
+        &accepted,
+        hierarchy,
+        trace,
+        store,
+        &mut (),
+        hands,
+        &places,
+        &settings,
+    );
+    match ran {
+        Ok(ran) => Ok(ran.told),
+        Err(error) => Err(error),
+    }
 }
 
 #[test]

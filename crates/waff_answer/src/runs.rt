@@ -5,7 +5,8 @@ ghost use Rattle.waff_plan.specs.Bound.{IsWorkers};
 ghost use Rattle.waff_io.specs.Writing.{AppendsPart, Tells, WritesOrFails};
 ghost use Rattle.waff_inputs.specs.Inputs.{instance_under};
 ghost use Rattle.waff_inputs.specs.declared.fault.ToolError.TheVariants as tool;
-ghost use Rattle.waff_run.specs.Opening.{told_of};
+ghost use Rattle.waff_run.specs.Faults.{IsOfRunning};
+ghost use Rattle.waff_run.specs.Opening.{job_of, told_of};
 ghost use Rattle.waff_run.specs.Texts.{TellRun};
 ghost use Rattle.waff_answer.specs.Answers.{bytes_of, first, second};
 ghost use Rattle.waff_answer.specs.Runs.{EndsRun, HasPart, IsOfTask, IsRunText, RefusesRun, drift_message};
@@ -26,7 +27,8 @@ use waff_inputs::{Accepted, ToolError, accept_by_threads, fault_status, write_fa
 use waff_io::{ErrorStream, WriteFault, write_pieces};
 use waff_record::Recorded;
 use waff_run::{
-    Opened, Opens, Pace, Part, Places, RunError, Settings, Site, planned_length, run_on,
+    Folder, Opened, Opens, Pace, Part, Places, RanOn, RunError, Settings, Site, planned_length,
+    run_on, silent_hands,
 };
 
 /// Runs the messages, writes the measured trace where it is wanted, and then the plan of what happened; or says
@@ -287,7 +289,7 @@ fn ran_on_files<R: Threads + Wait + Clock + Files + Opens + Eprint + Sync>(
     };
     drop(found);
     let settings = settings_of(task);
-    let ran = run_on(
+    let ran = ran_on_store(
         rt, alloc, accepted, hierarchy, trace, &store, &places, &settings,
     );
     drop(store);
@@ -299,6 +301,48 @@ fn ran_on_files<R: Threads + Wait + Clock + Files + Opens + Eprint + Sync>(
             }
             Err(error)
         }
+    }
+}
+
+/// Runs the messages on files that are open.
+fn ran_on_store<R: Threads + Wait + Clock + Eprint + Sync>(
+    rt: &R,
+    alloc: Global,
+    accepted: &Accepted,
+    hierarchy: &[u8],
+    trace: &[u8],
+    store: &Folder,
+    places: &Places,
+    settings: &Settings<'_>,
+) -> Result<Recorded, RunError>
+    requires workers { IsWorkers settings.now.pace.workers }
+    requires tick { 1 ≤ settings.now.pace.tick }
+    ensures told { IfOk result (λ told. TellRun hierarchy.now
+        (instance_under accepted.now.layout accepted.now.assigned accepted.now.trace)
+        settings.now.pace.workers settings.now.pace.tick (string_bytes told.measured)
+        (string_bytes told.text) told.drift) }
+    ensures refused { IfErr result (IsOfRunning
+        (job_of accepted.now.layout places.now accepted.now.trace) settings.now.pace.workers) }
+{
+    let hands = silent_hands(alloc, accepted.trace.len() as usize)?;
+    let ran = run_on(
+        rt,
+        alloc,
+        accepted,
+        hierarchy,
+        trace,
+        store,
+        &mut (),
+        hands,
+        places,
+        settings,
+    );
+    match ran {
+        Ok(RanOn { told, hands }) => {
+            drop(hands);
+            Ok(told)
+        }
+        Err(error) => Err(error),
     }
 }
 

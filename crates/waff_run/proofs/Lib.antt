@@ -8,3 +8,5 @@ mod Ones
 mod Calling
 mod Again
 mod Filing
+mod Asking
+mod Keeping

@@ -31,6 +31,16 @@ named_more messages m message from is =
     gathered_more (λ (message : Message). cells_of message.ops) messages (m - 1) message is
     ∙ ap (λ n. cells_named (take n messages)) number
 
+-- what is made of one message more
+pub mapped_more : {A : Type 0} (f : Message → A) (messages : List Message) (m : ℕ) (message : Message) → 1 ≤ m
+    → slice_get messages (m - 1) ≡ Some message → map f (take (m - 1) messages) ++ f message ∷ [] ≡ map f (take (m + 1 - 1) messages)
+mapped_more f messages m message from is =
+    let number : m - 1 + 1 ≡ m + 1 - 1 = omega arith in
+    sym (map-append f (take (m - 1) messages) (message ∷ []))
+    ∙ ap (λ y. map f (take (m - 1) messages ++ y ∷ [])) (sym (get_or_from_slice_get messages (m - 1) message message is))
+    ∙ ap (map f) (sym (take_more messages (m - 1) message (slice_get_within messages (m - 1) message is)))
+    ∙ ap (λ n. map f (take n messages)) number
+
 -- what is made of the cells of one operation more
 pub made_more : {A : Type 0} (f : Cell → A) (g : Op → List Cell) (before : List A) (ops : List Op) (i : ℕ) (op : Op) → slice_get ops i ≡ Some op
     → (before ++ map f (flat_map g (take i ops))) ++ map f (g op) ≡ before ++ map f (flat_map g (take (i + 1) ops))

@@ -15,7 +15,7 @@ use Rattle.waff_line.specs.Turns.{AreReached, AreRunTurns, course_by}
 use Rattle.waff_line.specs.declared.event.Event.{Event}
 use Rattle.waff_line.specs.declared.event.Event.TheVariants.{Begin, End}
 use Rattle.waff_line.specs.declared.turn.Turn.{Turn as NotedTurn}
-use Rattle.waff_line.proofs.Scaling.{earlier_scaled}
+use Rattle.waff_line.proofs.Scaling.{earlier_scaled, none_scaled}
 use Rattle.waff_line.proofs.Sound.{sound_reached}
 use Rattle.waff_run.proofs.Planned.{AreLaws, planned}
 
@@ -37,13 +37,6 @@ module _ (course : Course) (old new : LineValue) (same : course_in old ≡ cours
   pub reaches_same : new ≡ old → Reaches course new.state
   reaches_same is = subst (λ (line : LineValue). Reaches course line.state) (sym is) reached
 
-  pub reaches_begun : {E : Type 0} (worker : ℕ) (result : Result (Option ℕ) E)
-      → MatchResult result (λ begun. MatchOption begun (new ≡ old) (λ m. Steps (course_in old) old.state (Begin worker m) new.state)) (λ _. new ≡ old)
-      → Reaches course new.state
-  reaches_begun worker (Ok None) is = reaches_same is
-  reaches_begun worker (Ok (Some m)) step = reaches_more (Begin worker m) step
-  reaches_begun worker (Err e) is = reaches_same is
-
   pub reaches_ended : (m now : ℕ) → (IsRunning old.state m → Steps (course_in old) old.state (End m now) new.state)
       → (¬ IsRunning old.state m → new ≡ old) → Reaches course new.state
   reaches_ended m now step other = elim (cases_lt 0 (turn_of old.state m).worker) [
@@ -53,6 +46,16 @@ module _ (course : Course) (old new : LineValue) (same : course_in old ≡ cours
       | inr runs ↦ reaches_more (End m now) (step (record { begun = omega (arith, begun); runs = runs }))
     ]
   ]
+
+-- the step by which a message begins
+pub begun_step : {E : Type 0} (old new : LineValue) (worker m : ℕ) (result : Result (Option ℕ) E)
+    → MatchResult result (λ begun. MatchOption begun (new ≡ old) (λ n. Steps (course_in old) old.state (Begin worker n) new.state)) (λ _. new ≡ old)
+    → result ≡ Ok (Some m) → Steps (course_in old) old.state (Begin worker m) new.state
+begun_step {E} old new worker m result holds is =
+    subst
+    (λ (r : Result (Option ℕ) E).
+    MatchResult r (λ begun. MatchOption begun (new ≡ old) (λ n. Steps (course_in old) old.state (Begin worker n) new.state)) (λ _. new ≡ old))
+    is holds
 
 -- a line of the course before anything has happened
 pub reaches_opening : (course : Course) (line : LineValue) → course_in line ≡ course → line.state ≡ opening (course_in line) → Reaches course line.state
@@ -67,7 +70,7 @@ none : NotedTurn
 none = record { start = 0; finish = 0; worker = 0; after = 0; late = 0; ended = false }
 
 -- where each turn that was noted has ended, all messages have
-all_ended : (course : Course) (s : State) (noted : List NotedTurn) → map shown noted ≡ s.turns → length s.turns ≡ course.work.count
+pub all_ended : (course : Course) (s : State) (noted : List NotedTurn) → map shown noted ≡ s.turns → length s.turns ≡ course.work.count
     → All (λ turn. turn.ended ≡ true) noted → AreAllEnded course s
 all_ended course s noted is many all zero number = absurd (omega (arith, number.from))
 all_ended course s noted is many all (suc k) number =
@@ -95,7 +98,7 @@ pub is_course_by : (instance : Instance) (workers tick : ℕ) → AreTimings ins
     → length instance.assigned ≡ length instance.trace.messages → 1 ≤ workers → IsCourse (course_by instance workers tick)
 is_course_by instance workers tick timings long staffed = record {
   earlier = earlier_scaled tick (work_of_messages instance.trace.messages) timings.earlier;
-  alone = timings.alone;
+  alone = λ without. none_scaled tick (work_of_messages instance.trace.messages) (timings.alone without);
   many = length-timings_of instance.trace.messages ∙ sym long;
   staffed = staffed;
 }

@@ -8,3 +8,5 @@ pub mod Syncing
 pub mod Calls
 pub mod Same
 pub mod Opening
+pub mod Asked
+pub mod Hands

@@ -4,15 +4,25 @@
 //! course of the run, by a parameter that each call of `run` picks and that is nothing when the program runs. What
 //! comes out of the lock at the end is then a line of that course, to whose state events led, whoever has changed it.
 //!
-//! A message passes through the hands of its worker as a token. The line gives `Taken` where a message begins; to
+//! A message passes from its beginning to its end as a token. The line gives `Taken` where a message begins; to
 //! perform it makes `Performed` of that, or `Failed`; and the line ends a message only for `Performed`. Nobody else
 //! makes a token, none is copied, and none is let go. So nobody ends a message that was not performed.
+//!
+//! The store is asked by hands, of which each message has one. Until it begins the line keeps it; its tokens carry it;
+//! and when it ends the line has it back, by which then just that was asked which the message asks for. There are no other
+//! hands, so nothing else is asked.
 
-ghost use Rattle.std.specs.Prelude.{◌≡◌, IfOk, MatchOption, MatchResult};
+ghost use Rattle.std.specs.Prelude.{◌≡◌, ◌-◌, IfOk, MatchOption, MatchResult, IsSome, None, OnOk, Some, length};
+ghost use Rattle.std.specs.Prelude.{map, option_map, slice_index_or, slice_set};
+ghost use Rattle.waff_model.specs.Numbers.{IsAmongFirst};
 ghost use Rattle.waff_line.specs.Lined.{course_in};
+ghost use Rattle.waff_line.specs.Laws.{AreAllEnded};
 ghost use Rattle.waff_line.specs.Machine.{Course, IsRunning, Steps, opening};
+ghost use Rattle.waff_line.specs.Noted.{shown};
 ghost use Rattle.waff_line.specs.Turns.{AreReached, no_course};
 ghost use Rattle.waff_line.specs.declared.event.Event.TheVariants.{Begin, End};
+ghost use Rattle.waff_run.specs.Asked.{GoesOn};
+ghost use Rattle.waff_run.specs.Hands.{AreAsked, AreFresh, Asking as Wanted, AsksNumber, asking_of, no_asking};
 
 use crate::fault::Stopped;
 use crate::perform::{Room, perform};
@@ -28,22 +38,94 @@ use waff_model::Trace;
 pub trait RunOf {
     /// Its course.
     ghost course: { Course };
+
+    /// What it asks for.
+    ghost asking: { Wanted };
 }
 
 impl RunOf for Brand {
     ghost course = { no_course };
+
+    ghost asking = { no_asking };
 }
 
-/// A message of the run of the course that C names, which has begun on a worker and was not performed.
-pub struct Taken<C: RunOf> {
-    message: u32,
+/// What the run of the course that C names asks for: its messages, where cells lie, and which files are synced at the end of
+/// each message.
+#[derive(Drop)]
+pub struct Asking<'r, C: RunOf> {
+    places: &'r Places,
+    trace: &'r Trace,
+    syncs: &'r [Syncs],
     of: PhantomData<C>,
 }
 
-/// A message that was performed.
-pub struct Performed<C: RunOf> {
+impl<'r, C: RunOf> Model for Asking<'r, C> {
+    ghost use Rattle.std.specs.Prelude.{◌≡◌};
+    ghost use Rattle.waff_run.specs.Hands.{Asking as Wanted, asking_of};
+
+    ghost Value = { Wanted };
+
+    ghost view = { λ a. asking_of a.places.now a.trace.now.messages a.syncs.now };
+
+    ghost invariant = { λ a. asking_of a.places.now a.trace.now.messages a.syncs.now ≡ C.asking };
+}
+
+impl<'r, C: RunOf> Asking<'r, C> {
+    pub fn of(places: &'r Places, trace: &'r Trace, syncs: &'r [Syncs]) -> Self
+        requires { asking_of places.now trace.now.messages syncs.now ≡ C.asking }
+    {
+        Asking {
+            places,
+            trace,
+            syncs,
+            of: PhantomData,
+        }
+    }
+
+    /// It is what the run asks for.
+    fn is_of_run(&self)
+        ensures { self.now ≡ C.asking }
+    {
+        let _places = &self.places;
+    }
+}
+
+/// A message of the run of the course that C names, which has begun on a worker and was not performed. Contracts see which
+/// message it is.
+pub struct Taken<C: RunOf, S: Store> {
     message: u32,
+    hand: S::Hand,
     of: PhantomData<C>,
+}
+
+impl<C: RunOf, S: Store> Model for Taken<C, S> {
+    ghost use Rattle.std.specs.Prelude.{◌≡◌, ℕ, [], IfSome};
+
+    ghost Value = { ℕ };
+
+    ghost view = { λ taken. taken.message };
+
+    ghost invariant = { λ taken. IfSome (S.log taken.hand) (λ asked. asked ≡ []) };
+}
+
+/// A message that was performed. Contracts see which message it is.
+pub struct Performed<C: RunOf, S: Store> {
+    message: u32,
+    hand: S::Hand,
+    of: PhantomData<C>,
+}
+
+impl<C: RunOf, S: Store> Model for Performed<C, S> {
+    ghost use Rattle.std.specs.Prelude.{ℕ, IfSome, length};
+    ghost use Rattle.waff_model.specs.Numbers.{IsAmongFirst};
+    ghost use Rattle.waff_run.specs.Hands.{AsksNumber};
+
+    ghost Value = { ℕ };
+
+    ghost view = { λ performed. performed.message };
+
+    ghost invariant = { λ performed. IsAmongFirst (length C.asking.messages) performed.message
+        × IfSome (S.log performed.hand) (AsksNumber C.asking performed.message) };
 }
 
 /// A message that could not be performed, and why. The run has to stop.
@@ -52,30 +134,30 @@ pub struct Failed<C: RunOf> {
     of: PhantomData<C>,
 }
 
-impl<C: RunOf> Taken<C> {
+impl<C: RunOf, S: Store> Taken<C, S> {
     /// Does the operations of the message, and then its syncs.
-    pub fn perform<S: Store>(
+    pub fn perform(
         self,
         store: &S,
-        places: &Places,
-        trace: &Trace,
-        syncs: &[Syncs],
+        asking: &Asking<'_, C>,
         room: &mut Room,
-    ) -> Result<Performed<C>, Failed<C>>
-        ensures { IfOk result (λ performed. performed.message ≡ self.message) }
+    ) -> Result<Performed<C, S>, Failed<C>>
+        ensures { IfOk result (λ performed. performed ≡ self) }
     {
-        let Taken { message, of } = self;
-        match perform_message(store, places, trace, message, syncs, room) {
-            Ok(()) => Ok(Performed { message, of }),
+        let Taken { message, hand, of } = self;
+        let mut hand = hand;
+        asking.is_of_run();
+        match perform_message(store, &mut hand, asking, message, room) {
+            Ok(()) => Ok(Performed { message, hand, of }),
             Err(why) => Err(Failed { why, of }),
         }
     }
 }
 
-impl<C: RunOf> Performed<C> {
+impl<C: RunOf, S: Store> Performed<C, S> {
     /// Which message it is.
     pub fn message(&self) -> u32
-        ensures { result ≡ self.now.message }
+        ensures { result ≡ self.now }
     {
         self.message
     }
@@ -89,33 +171,39 @@ impl<C: RunOf> Failed<C> {
     }
 }
 
-/// The line of the run of the course that C names. Its methods are those of the line, with tokens for the messages that
-/// begin and end. Contracts see the line, to whose state events of the machine led.
+/// The line of the run of the course that C names, and the hands of its messages. Its methods are those of the line, with tokens
+/// for the messages that begin and end. Contracts see the line, to whose state events of the machine led.
 #[derive(Drop)]
-pub struct Going<'a, C: RunOf> {
+pub struct Going<'a, C: RunOf, S: Store> {
     line: Line<'a>,
+    hands: Vec<Option<S::Hand>>,
     of: PhantomData<C>,
 }
 
-impl<'a, C: RunOf> Model for Going<'a, C> {
-    ghost use Rattle.std.specs.Prelude.{◌≡◌};
+impl<'a, C: RunOf, S: Store> Model for Going<'a, C, S> {
+    ghost use Rattle.std.specs.Prelude.{◌≡◌, map, option_map};
     ghost use Rattle.waff_line.specs.Lined.{LineValue, course_in};
     ghost use Rattle.waff_line.specs.Machine.{Reaches};
+    ghost use Rattle.waff_run.specs.Hands.{AreHands};
 
     ghost Value = { LineValue };
 
     ghost view = { λ g. g.line };
 
-    ghost invariant = { λ g. (course_in g.line ≡ C.course) × Reaches C.course g.line.state };
+    ghost invariant = { λ g. (course_in g.line ≡ C.course) × Reaches C.course g.line.state
+        × AreHands C.course C.asking g.line.state (map (option_map S.log) g.hands.items) };
 }
 
-impl<'a, C: RunOf> Going<'a, C> {
-    pub fn of(line: Line<'a>) -> Self
+impl<'a, C: RunOf, S: Store> Going<'a, C, S> {
+    pub fn of(line: Line<'a>, hands: Vec<Option<S::Hand>>) -> Self
         requires same { course_in line ≡ C.course }
         requires opening { line.state ≡ opening (course_in line) }
+        requires count { C.course.work.count ≡ length C.asking.messages }
+        requires fresh { AreFresh (length C.asking.messages) (map (option_map S.log) hands.items) }
     {
         Going {
             line,
+            hands,
             of: PhantomData,
         }
     }
@@ -144,52 +232,111 @@ impl<'a, C: RunOf> Going<'a, C> {
         self.line.join()
     }
 
-    pub fn begin(&mut self, worker: u32) -> Result<Option<Taken<C>>, Unready>
+    pub fn begin(&mut self, worker: u32) -> Result<Option<Taken<C, S>>, Unready>
         ensures { MatchResult result
             (λ begun. MatchOption begun (self.new ≡ self.old)
-            (λ taken. Steps (course_in self.old) self.old.state (Begin worker taken.message) self.new.state))
+            (λ taken. Steps (course_in self.old) self.old.state (Begin worker taken) self.new.state))
             (λ _. self.new ≡ self.old) }
     {
         match self.line.begin(worker) {
-            Ok(Some(message)) => Ok(Some(Taken {
-                message,
-                of: PhantomData,
-            })),
+            Ok(Some(message)) => match take_hand(&mut self.hands, message) {
+                Some(hand) => Ok(Some(Taken {
+                    message,
+                    hand,
+                    of: PhantomData,
+                })),
+                None => unreachable!(),
+            },
             Ok(None) => Ok(None),
             Err(unready) => Err(unready),
         }
     }
 
-    pub fn end(&mut self, performed: Performed<C>, now: u64) -> Result<Ended, AllocError>
-        ensures { IsRunning self.old.state performed.message
-            → Steps (course_in self.old) self.old.state (End performed.message now) self.new.state }
+    pub fn end(&mut self, performed: Performed<C, S>, now: u64) -> Result<Ended, AllocError>
+        ensures { IsRunning self.old.state performed
+            → Steps (course_in self.old) self.old.state (End performed now) self.new.state }
     {
-        let Performed { message, of: _of } = performed;
+        let Performed {
+            message,
+            hand,
+            of: _of,
+        } = performed;
+        put_hand(&mut self.hands, message, hand);
         self.line.end(message, now)
     }
 
     pub fn turns(&self) -> &[Turn]
-        ensures { AreReached C.course result.now }
+        ensures reached { AreReached C.course result.now }
+        ensures shown { map shown result.now ≡ self.now.state.turns }
+        ensures many { length self.now.state.turns ≡ C.course.work.count }
     {
         self.line.turns()
+    }
+
+    /// The hands. Where all messages have ended, they are back.
+    pub fn into_hands(self) -> Vec<Option<S::Hand>>
+        ensures { AreAllEnded C.course self.entry.state
+            → AreAsked C.asking (map (option_map S.log) result.items) }
+    {
+        let Going {
+            line,
+            hands,
+            of: _of,
+        } = self;
+        drop(line);
+        hands
+    }
+}
+
+/// Takes the hand of a message out, where it is there.
+fn take_hand<H>(hands: &mut Vec<Option<H>>, message: u32) -> Option<H>
+    ensures taken { result ≡ slice_index_or hands.old.items (message - 1) None }
+    ensures out { hands.new.items ≡ slice_set hands.old.items (message - 1) None }
+{
+    match hands.get_mut((message as usize).saturating_sub(1)) {
+        Some(hand) => hand.take(),
+        None => None,
+    }
+}
+
+/// Puts the hand of a message back, where it is out.
+fn put_hand<H: Drop>(hands: &mut Vec<Option<H>>, message: u32, hand: H)
+    ensures back { slice_index_or hands.old.items (message - 1) None ≡ None
+        → hands.new.items ≡ slice_set hands.old.items (message - 1) (Some hand) }
+    ensures there { IsSome (slice_index_or hands.old.items (message - 1) None) → hands.new.items ≡ hands.old.items }
+{
+    if let Some(place) = hands.get_mut((message as usize).saturating_sub(1)) {
+        if place.is_none() {
+            *place = Some(hand);
+        }
     }
 }
 
 /// Does the operations of a message, and then its syncs.
-fn perform_message<S: Store>(
+fn perform_message<C: RunOf, S: Store>(
     store: &S,
-    places: &Places,
-    trace: &Trace,
+    hand: &mut S::Hand,
+    asking: &Asking<'_, C>,
     m: u32,
-    syncs: &[Syncs],
     room: &mut Room,
-) -> Result<(), Stopped> {
-    if m == 0 || m > trace.len() {
+) -> Result<(), Stopped>
+    ensures number { OnOk result (IsAmongFirst (length asking.now.messages) m) }
+    ensures asked { OnOk result
+        (GoesOn (S.log hand.old) (S.log hand.new) (AsksNumber asking.now m)) }
+{
+    if m == 0 || m > asking.trace.len() {
         return Err(Stopped::Line);
     }
-    let syncs = match syncs.get(m as usize - 1) {
+    let syncs = match asking.syncs.get(m as usize - 1) {
         Some(syncs) => *syncs,
         None => Syncs::None,
     };
-    perform(store, places, &trace.message(m).ops, syncs, room)
+    perform(
+        store,
+        hand,
+        asking.places,
+        &asking.trace.message(m).ops,
+        syncs,
+        room,
+    )
 }

@@ -16,7 +16,9 @@
 //! What `run` answers of a store and a clock, whatever they do and however its threads take turns,
 //! are turns that events of the machine of `waff_line` leave, and so a plan (`AreRunTurns`). What
 //! `run_on` answers are the texts that tell such turns (`TellRun`): the plan in them is the one
-//! that the machine accepted. Where a cell lies is an equation (`spot_of`). Laws say what follows:
+//! that the machine accepted. Each message asks the store by a hand of its own, by which all that it asks for
+//! was asked once, in order, its syncs behind its writes, and nothing else (`AreAsked`), as far as the store
+//! tells what it is asked. Where a cell lies is an equation (`spot_of`). Laws say what follows:
 //! no two cells have a byte in common (`CellsAreApart`), and the cells of one file have one owner
 //! (`FilesHaveOneOwner`), so messages that may run at once have no file in common
 //! (`FilesAreApart`). Calls of the crate's own promise to which length a file is brought at least
@@ -25,8 +27,8 @@
 //! were not opened (`IsOfOpening`), or why what was begun did not come to its end (`IsOfRunning`):
 //! which message, how many workers, and which file, one in which the messages name a cell. Where
 //! files were opened, no two are one by what was found of them (`AreTold`). That a call returns is
-//! not promised, nor that what is found is what is there, nor that the turns tell what was
-//! done to the store. `tests/runs/run` shows the rest.
+//! not promised, nor that what is found is what is there, nor that files do what they are asked.
+//! `tests/runs/run` shows the rest.
 #![tactic(auto)]
 
 mod calls;
@@ -53,8 +55,8 @@ pub use opening::{Entry, How, Opened, Opens, Site};
 pub use pace::Pace;
 pub use part::Part;
 pub use places::{Places, Spot};
-pub use running::{Settings, planned_length, run_on};
+pub use running::{RanOn, Settings, planned_length, run_on};
 pub use same::Identity;
-pub use store::{Folder, Store, StoreFault};
+pub use store::{Folder, Store, StoreFault, silent_hands};
 pub use syncing::Syncs;
-pub use workers::run;
+pub use workers::{Ran, run};

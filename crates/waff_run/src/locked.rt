@@ -2,6 +2,7 @@
 
 use crate::fault::Stopped;
 use crate::going::{Going, Performed, RunOf, Taken};
+use crate::store::Store;
 use waff_line::Ended;
 use waff_plan::NEVER;
 
@@ -14,8 +15,8 @@ const TELLING: u64 = 500_000_000;
 
 /// What is behind the lock.
 #[derive(Drop)]
-pub(crate) struct Locked<'a, C: RunOf> {
-    pub line: Going<'a, C>,
+pub(crate) struct Locked<'a, C: RunOf, S: Store> {
+    pub line: Going<'a, C, S>,
     pub stopped: Option<Stopped>,
     /// The time of the line until which a worker sleeps, `NEVER` where none has a deadline.
     pub keeper: u64,
@@ -25,9 +26,9 @@ pub(crate) struct Locked<'a, C: RunOf> {
     pub told: u64,
 }
 
-impl<'a, C: RunOf> Locked<'a, C> {
+impl<'a, C: RunOf, S: Store> Locked<'a, C, S> {
     /// Nothing has happened to the line.
-    pub fn of(line: Going<'a, C>) -> Self {
+    pub fn of(line: Going<'a, C, S>) -> Self {
         Locked {
             line,
             stopped: None,
@@ -66,7 +67,7 @@ impl<'a, C: RunOf> Locked<'a, C> {
     }
 
     /// The first message that is ready begins on this worker.
-    pub fn begin(&mut self, worker: u32) -> Option<Taken<C>> {
+    pub fn begin(&mut self, worker: u32) -> Option<Taken<C, S>> {
         match self.line.begin(worker) {
             Ok(begun) => begun,
             Err(_) => {
@@ -77,7 +78,7 @@ impl<'a, C: RunOf> Locked<'a, C> {
     }
 
     /// A message that was performed ends at this time.
-    pub fn end(&mut self, performed: Performed<C>, now: u64) {
+    pub fn end(&mut self, performed: Performed<C, S>, now: u64) {
         let m = performed.message();
         match self.line.end(performed, now) {
             Ok(Ended::Well) => {}

@@ -1,32 +1,34 @@
 //! A run, from the accepted files to the two texts.
 
-ghost use Rattle.std.specs.Prelude.{◌≤◌, IfErr, IfOk, IfSome, string_bytes};
+ghost use Rattle.std.specs.Prelude.{◌≡◌, ◌≤◌, IfErr, IfOk, IfSome, OnOk, length, map, option_map, string_bytes};
 ghost use Rattle.waff_inputs.specs.Inputs.{instance_under};
 ghost use Rattle.waff_line.specs.Turns.{AreRunTurns, course_by};
 ghost use Rattle.waff_plan.specs.Bound.{IsWorkers};
+ghost use Rattle.waff_run.specs.Asked.{AsksFilling, GoesOn};
 ghost use Rattle.waff_run.specs.Faults.{IsOfRunning};
 ghost use Rattle.waff_run.specs.Files.{NamesFile};
+ghost use Rattle.waff_run.specs.Hands.{AreAsked, AreFresh};
+ghost use Rattle.waff_run.specs.Named.{cells_named};
 ghost use Rattle.waff_run.specs.Opening.{job_of};
-ghost use Rattle.waff_run.specs.Texts.{TellRun};
+ghost use Rattle.waff_run.specs.Texts.{TellRun, asking_by, is_named, syncs_by};
 
 use crate::calls::longest_call;
 use crate::fault::{RunError, Stopped};
 use crate::pace::Pace;
-use crate::perform::{Room, fill};
+use crate::perform::fill;
 use crate::places::Places;
-use crate::spots::{ends, spots};
+use crate::spots::ends;
 use crate::store::{Store, file_name};
 use crate::syncing::Syncs;
-use crate::workers::run;
+use crate::workers::{Ran, run};
 use std::alloc::{AllocError, Global};
 use std::marker::Sync;
 use std::rt::Clock;
 use std::sync::Wait;
 use std::thread::Threads;
 use waff_inputs::{Accepted, ToolError};
-use waff_line::Turn;
 use waff_list::{Rule, list_plan_of};
-use waff_model::Trace;
+use waff_model::{Message, Trace};
 use waff_record::{RecordError, Recorded, RunTurns, accept_measured, record_of};
 
 /// How a run is run.
@@ -41,7 +43,15 @@ pub struct Settings<'a> {
     pub syncs: &'a [String],
 }
 
-/// Runs the messages of the trace, which these bytes are, on the store.
+/// What is told of a run, and the hands by which its messages asked.
+#[derive(Drop)]
+pub struct RanOn<H: Drop> {
+    pub told: Recorded,
+    pub hands: Vec<Option<H>>,
+}
+
+/// Runs the messages of the trace, which these bytes are, on the store. `hands` has one for each message, by which it asks;
+/// by `hand` the cells are filled.
 pub fn run_on<R: Threads + Wait + Clock + Eprint + Sync, S: Store + Sync>(
     rt: &R,
     alloc: Global,
@@ -49,55 +59,71 @@ pub fn run_on<R: Threads + Wait + Clock + Eprint + Sync, S: Store + Sync>(
     hierarchy: &[u8],
     trace: &[u8],
     store: &S,
+    hand: &mut S::Hand,
+    hands: Vec<Option<S::Hand>>,
     places: &Places,
     settings: &Settings<'_>,
-) -> Result<Recorded, RunError>
+) -> Result<RanOn<S::Hand>, RunError>
     requires workers { IsWorkers settings.now.pace.workers }
     requires tick { 1 ≤ settings.now.pace.tick }
+    requires fresh { AreFresh (length accepted.now.trace.messages)
+        (map (option_map S.log) hands.items) }
     ensures told { IfOk result (λ ran. TellRun hierarchy.now
         (instance_under accepted.now.layout accepted.now.assigned accepted.now.trace)
-        settings.now.pace.workers settings.now.pace.tick (string_bytes ran.measured) (string_bytes ran.text) ran.drift) }
+        settings.now.pace.workers settings.now.pace.tick (string_bytes ran.told.measured)
+        (string_bytes ran.told.text) ran.told.drift) }
+    ensures asked { IfOk result (λ ran. AreAsked (asking_by places.now accepted.now.trace settings.now)
+        (map (option_map S.log) ran.hands.items)) }
+    ensures filled { OnOk result (GoesOn (S.log hand.old) (S.log hand.new)
+        (AsksFilling places.now settings.now.fill (cells_named accepted.now.trace.messages))) }
     ensures refused { IfErr result (IsOfRunning
         (job_of accepted.now.layout places.now accepted.now.trace) settings.now.pace.workers) }
 {
-    let turns = turns_of(rt, alloc, accepted, store, places, settings)?;
+    let Ran { turns, hands } = ran_on(rt, alloc, accepted, store, hand, hands, places, settings)?;
     let run = RunTurns {
         case: accepted.case(),
         turns: turns.as_slice(),
         workers: settings.pace.workers,
         tick: settings.pace.tick,
     };
-    let ran = record_of(rt, alloc, &run, hierarchy, trace);
+    let told = record_of(rt, alloc, &run, hierarchy, trace);
     drop(turns);
-    match ran {
-        Ok(recorded) => Ok(recorded),
+    match told {
+        Ok(told) => Ok(RanOn { told, hands }),
         Err(error) => {
+            drop(hands);
             let workers = settings.pace.workers;
             Err(fault_of(alloc, accepted, places, workers, Stopped::from(error)))
         }
     }
 }
 
-/// What happens when the messages are run.
-fn turns_of<R: Threads + Wait + Clock + Eprint + Sync, S: Store + Sync>(
+/// What happens when the cells are filled, where they are to be, and then the messages are run.
+fn ran_on<R: Threads + Wait + Clock + Eprint + Sync, S: Store + Sync>(
     rt: &R,
     alloc: Global,
     accepted: &Accepted,
     store: &S,
+    hand: &mut S::Hand,
+    hands: Vec<Option<S::Hand>>,
     places: &Places,
     settings: &Settings<'_>,
-) -> Result<Vec<Turn>, RunError>
+) -> Result<Ran<S::Hand>, RunError>
     requires workers { IsWorkers settings.now.pace.workers }
-    ensures ran { IfOk result (λ turns. AreRunTurns (course_by (instance_under accepted.now.layout
-        accepted.now.assigned accepted.now.trace) settings.now.pace.workers settings.now.pace.tick) turns.items) }
+    requires fresh { AreFresh (length accepted.now.trace.messages)
+        (map (option_map S.log) hands.items) }
+    ensures ran { IfOk result (λ ran. AreRunTurns (course_by (instance_under accepted.now.layout
+        accepted.now.assigned accepted.now.trace) settings.now.pace.workers settings.now.pace.tick) ran.turns.items) }
+    ensures asked { IfOk result (λ ran. AreAsked (asking_by places.now accepted.now.trace settings.now)
+        (map (option_map S.log) ran.hands.items)) }
+    ensures filled { OnOk result (GoesOn (S.log hand.old) (S.log hand.new)
+        (AsksFilling places.now settings.now.fill (cells_named accepted.now.trace.messages))) }
     ensures refused { IfErr result (IsOfRunning
         (job_of accepted.now.layout places.now accepted.now.trace) settings.now.pace.workers) }
 {
+    fill_all(alloc, accepted, store, hand, places, settings)?;
     let workers = settings.pace.workers;
     let longest = longest_call(&accepted.trace, places);
-    if settings.fill {
-        fill_all(alloc, accepted, store, places, workers)?;
-    }
     let syncs = syncs_of(alloc, &accepted.trace, settings)?;
     let case = accepted.case();
     let ran = run(
@@ -105,6 +131,7 @@ fn turns_of<R: Threads + Wait + Clock + Eprint + Sync, S: Store + Sync>(
         alloc,
         case,
         store,
+        hands,
         places,
         syncs.as_slice(),
         longest,
@@ -112,28 +139,33 @@ fn turns_of<R: Threads + Wait + Clock + Eprint + Sync, S: Store + Sync>(
     );
     drop(syncs);
     match ran {
-        Ok(turns) => Ok(turns),
+        Ok(ran) => Ok(ran),
         Err(stopped) => Err(fault_of(alloc, accepted, places, workers, stopped)),
     }
 }
 
-/// Each cell that the trace names is read and written back.
+/// Each cell that the trace names is read and written back, where it is to be.
+#[tactic(auto, using(crate::proofs::Asking::fills, crate::proofs::Asking::fills_none))]
 fn fill_all<S: Store>(
     alloc: Global,
     accepted: &Accepted,
     store: &S,
+    hand: &mut S::Hand,
     places: &Places,
-    workers: u32,
+    settings: &Settings<'_>,
 ) -> Result<(), RunError>
-    ensures { IfErr result (IsOfRunning
-        (job_of accepted.now.layout places.now accepted.now.trace) workers) }
+    ensures filled { OnOk result (GoesOn (S.log hand.old) (S.log hand.new)
+        (AsksFilling places.now settings.now.fill (cells_named accepted.now.trace.messages))) }
+    ensures refused { IfErr result (IsOfRunning
+        (job_of accepted.now.layout places.now accepted.now.trace) settings.now.pace.workers) }
 {
-    let spots = spots(alloc, &accepted.trace, places)?;
-    let mut room = Room::of(alloc, places, 1)?;
-    match fill(store, spots.as_slice(), &mut room) {
+    if !settings.fill {
+        return Ok(());
+    }
+    match fill(alloc, store, hand, places, &accepted.trace) {
         Ok(()) => Ok(()),
-        Err(fault) => {
-            let stopped = Stopped::File(fault.file);
+        Err(stopped) => {
+            let workers = settings.pace.workers;
             Err(fault_of(alloc, accepted, places, workers, stopped))
         }
     }
@@ -183,24 +215,36 @@ fn name_of(
 }
 
 /// Which files are synced at the end of each message.
-fn syncs_of(
-    alloc: Global,
-    trace: &Trace,
-    settings: &Settings<'_>,
-) -> Result<Vec<Syncs>, AllocError> {
+fn syncs_of(alloc: Global, trace: &Trace, settings: &Settings<'_>) -> Result<Vec<Syncs>, AllocError>
+    ensures { IfOk result (λ syncs.
+        syncs.items ≡ map (syncs_by settings.now) trace.now.messages) }
+{
     let mut syncs = Vec::with_capacity(alloc, trace.len() as usize)?;
     for m in 1..trace.len() + 1 {
-        let name = trace.message(m).name.as_str();
-        let is_named = settings.syncs.iter().any(|it| it.as_str() == name);
-        syncs.push(if is_named {
-            Syncs::All
-        } else if settings.sync_writes {
-            Syncs::Written
-        } else {
-            Syncs::None
-        })?;
+        syncs.push(syncs_at(trace.message(m), settings))?;
     }
     Ok(syncs)
+}
+
+/// Which files are synced at the end of a message.
+fn syncs_at(message: &Message, settings: &Settings<'_>) -> Syncs
+    ensures { result ≡ syncs_by settings.now message.now }
+{
+    if is_named(message, settings) {
+        Syncs::All
+    } else if settings.sync_writes {
+        Syncs::Written
+    } else {
+        Syncs::None
+    }
+}
+
+/// Whether the message has one of the names for which the files of all cells are synced.
+fn is_named(message: &Message, settings: &Settings<'_>) -> bool
+    ensures { result ≡ is_named settings.now.syncs.now message.now }
+{
+    let name = message.name.as_str();
+    settings.syncs.iter().any(|it| it.as_str() == name)
 }
 
 /// How long the plan of the measured trace for so many workers is, in ticks.

@@ -1,10 +1,9 @@
 //! What the workers of a run share, and how each of them looks for a message, sleeps and wakes others.
 
-use crate::going::RunOf;
+use crate::going::{Asking, RunOf};
 use crate::locked::{EARLY, Locked};
 use crate::pace::Pace;
-use crate::places::Places;
-use crate::syncing::Syncs;
+use crate::store::Store;
 use crate::threads::Gate;
 use std::hint::spin_loop;
 use std::rt::Clock;
@@ -18,12 +17,11 @@ const LOOKS: u32 = 1_000;
 
 /// What all workers share.
 #[derive(Drop)]
-pub(crate) struct Shared<'r, 'a, S, C: RunOf> {
+pub(crate) struct Shared<'r, 'a, S: Store, C: RunOf> {
     pub case: Case<'a>,
     pub store: &'r S,
-    pub places: &'r Places,
-    pub syncs: &'r [Syncs],
-    pub locked: &'r Mutex<Locked<'a, C>>,
+    pub asking: Asking<'r, C>,
+    pub locked: &'r Mutex<Locked<'a, C, S>>,
     pub changed: &'r Condvar,
     /// Whether a worker has left something to do that no other has taken up. One of those that look takes it down.
     pub offer: &'r AtomicBool,
@@ -51,12 +49,12 @@ pub(crate) fn nanos<R: Clock>(rt: &R, begun: &Instant) -> u64 {
 }
 
 /// Keeps the deadline of the next issue, which is near, without sleeping.
-pub(crate) fn await_issue<'b, 'a, C: RunOf, R: Wait + Clock, S>(
+pub(crate) fn await_issue<'b, 'a, C: RunOf, R: Wait + Clock, S: Store>(
     rt: &R,
     shared: &Shared<'_, '_, S, C>,
     begun: &Instant,
-    guard: MutexGuard<'b, Locked<'a, C>>,
-) -> MutexGuard<'b, Locked<'a, C>> {
+    guard: MutexGuard<'b, Locked<'a, C, S>>,
+) -> MutexGuard<'b, Locked<'a, C, S>> {
     let mut guard = guard;
     let due = guard.line.next();
     guard.keeper = due;
@@ -67,13 +65,13 @@ pub(crate) fn await_issue<'b, 'a, C: RunOf, R: Wait + Clock, S>(
 
 /// Looks for a message that another worker leaves, until this time at most. Who looks keeps away from
 /// the lock, which those need who have a message.
-pub(crate) fn await_offer<'b, 'a, C: RunOf, R: Wait + Clock, S>(
+pub(crate) fn await_offer<'b, 'a, C: RunOf, R: Wait + Clock, S: Store>(
     rt: &R,
     shared: &Shared<'_, '_, S, C>,
     begun: &Instant,
-    guard: MutexGuard<'b, Locked<'a, C>>,
+    guard: MutexGuard<'b, Locked<'a, C, S>>,
     until: u64,
-) -> MutexGuard<'b, Locked<'a, C>> {
+) -> MutexGuard<'b, Locked<'a, C, S>> {
     let unlocked = MutexGuard::unlock(guard);
     for _ in 0..LOOKS {
         let is_offered = shared.offer.load(Ordering::SeqCst)
@@ -88,7 +86,7 @@ pub(crate) fn await_offer<'b, 'a, C: RunOf, R: Wait + Clock, S>(
 
 /// Offers what is left to do to one of those that look, and wakes one that sleeps where there is more to do, or where
 /// nobody waits for the next issue. Wakes all where none is needed any more.
-pub(crate) fn wake<C: RunOf, S>(shared: &Shared<'_, '_, S, C>, locked: &Locked<'_, C>) {
+pub(crate) fn wake<C: RunOf, S: Store>(shared: &Shared<'_, '_, S, C>, locked: &Locked<'_, C, S>) {
     let is_over = locked.line.waiting() == 0;
     if is_over || locked.line.is_ready() || locked.line.next() < locked.keeper {
         shared.offer.store(true, Ordering::SeqCst);
@@ -101,12 +99,12 @@ pub(crate) fn wake<C: RunOf, S>(shared: &Shared<'_, '_, S, C>, locked: &Locked<'
 }
 
 /// Sleeps until something changes. One worker alone keeps the deadline of the next issue.
-pub(crate) fn sleep<'b, 'a, C: RunOf, R: Wait + Clock, S>(
+pub(crate) fn sleep<'b, 'a, C: RunOf, R: Wait + Clock, S: Store>(
     rt: &R,
     shared: &Shared<'_, '_, S, C>,
     begun: &Instant,
-    guard: MutexGuard<'b, Locked<'a, C>>,
-) -> MutexGuard<'b, Locked<'a, C>> {
+    guard: MutexGuard<'b, Locked<'a, C, S>>,
+) -> MutexGuard<'b, Locked<'a, C, S>> {
     let mut guard = guard;
     guard.asleep = guard.asleep.saturating_add(1);
     let due = guard.line.next();

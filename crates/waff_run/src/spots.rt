@@ -5,6 +5,7 @@ ghost use Rattle.waff_model.specs.Cells.{cells_of, cells_of_op};
 ghost use Rattle.waff_model.specs.declared.cell.Cell.{Cell};
 ghost use Rattle.waff_run.specs.Named.{AreEnds, ListsSpots, cells_named};
 ghost use Rattle.waff_run.specs.Places.{spot_of};
+ghost use Rattle.waff_run.specs.Syncing.{ListsOnce};
 
 use crate::places::{Places, Spot};
 use std::alloc::{AllocError, Global};
@@ -118,5 +119,18 @@ fn push_spots_of_op(spots: &mut Vec<Spot>, places: &Places, op: Op) -> Result<()
             spots.push(places.spot(other))?;
         }
     }
+    Ok(())
+}
+
+/// Lists the files in which these places lie, each once.
+pub(crate) fn list_files(spots: &[Spot], files: &mut Vec<usize>) -> Result<(), AllocError>
+    ensures { OnOk result (ListsOnce (map (λ spot. spot.file) spots.now) files.new.items) }
+{
+    files.clear();
+    for at in 0..spots.len() {
+        files.push(spots[at].file)?;
+    }
+    files.sort_unstable();
+    files.dedup();
     Ok(())
 }

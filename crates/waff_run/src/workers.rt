@@ -2,14 +2,16 @@
 //! line is told the clock as it is.
 
 ghost use Rattle.std.specs.Bool.{OnTrue};
-ghost use Rattle.std.specs.Prelude.{◌≡◌, ℕ, All, IfOk, true};
+ghost use Rattle.std.specs.Prelude.{◌≡◌, ℕ, All, IfOk, OnOk, length, map, option_map, true};
 ghost use Rattle.waff_assign.specs.Case.{instance_of};
+ghost use Rattle.waff_line.specs.Laws.{AreAllEnded};
 ghost use Rattle.waff_line.specs.Machine.{IsCourse};
 ghost use Rattle.waff_line.specs.Turns.{AreRunTurns, course_by};
 ghost use Rattle.waff_plan.specs.Bound.{IsWorkers};
+ghost use Rattle.waff_run.specs.Hands.{AreAsked, AreFresh, asking_of};
 
 use crate::fault::Stopped;
-use crate::going::{Failed, Going, Performed, RunOf, Taken};
+use crate::going::{Asking, Failed, Going, Performed, RunOf, Taken};
 use crate::locked::Locked;
 use crate::pace::Pace;
 use crate::perform::Room;
@@ -29,23 +31,35 @@ use std::time::Instant;
 use waff_assign::Case;
 use waff_line::{Line, Turn, laws};
 
+/// What a run tells, and the hands by which its messages asked.
+#[derive(Drop)]
+pub struct Ran<H: Drop> {
+    pub turns: Vec<Turn>,
+    pub hands: Vec<Option<H>>,
+}
+
 /// Runs the messages of a case on a store, by threads. `syncs` says for each message which files are synced at
-/// its end. That it tells what the threads did, and when, no clause says.
+/// its end; `hands` has one for each message, by which it is asked. That it tells when the threads did that, no clause says.
 pub fn run<R: Threads + Wait + Clock + Eprint + Sync, S: Store + Sync>(
     rt: &R,
     alloc: Global,
     case: Case<'_>,
     store: &S,
+    hands: Vec<Option<S::Hand>>,
     places: &Places,
     syncs: &[Syncs],
     longest: usize,
     pace: Pace,
-) -> Result<Vec<Turn>, Stopped>
+) -> Result<Ran<S::Hand>, Stopped>
     requires workers { IsWorkers pace.workers }
-    ensures { IfOk result (λ turns.
-        AreRunTurns (course_by (instance_of case.entry) pace.workers pace.tick) turns.items) }
+    requires fresh { AreFresh (length case.trace.now.messages) (map (option_map S.log) hands.items) }
+    ensures ran { IfOk result (λ ran.
+        AreRunTurns (course_by (instance_of case.entry) pace.workers pace.tick) ran.turns.items) }
+    ensures asked { IfOk result (λ ran. AreAsked
+        (asking_of places.now case.entry.trace.now.messages syncs.now)
+        (map (option_map S.log) ran.hands.items)) }
 {
-    run_at::<Brand, R, S>(rt, alloc, case, store, places, syncs, longest, pace)
+    run_at::<Brand, R, S>(rt, alloc, case, store, hands, places, syncs, longest, pace)
 }
 
 /// The same for the course that C names.
@@ -54,14 +68,18 @@ fn run_at<C: RunOf + Send + Sync, R: Threads + Wait + Clock + Eprint + Sync, S: 
     alloc: Global,
     case: Case<'_>,
     store: &S,
+    hands: Vec<Option<S::Hand>>,
     places: &Places,
     syncs: &[Syncs],
     longest: usize,
     pace: Pace,
-) -> Result<Vec<Turn>, Stopped>
+) -> Result<Ran<S::Hand>, Stopped>
     requires workers { IsWorkers pace.workers }
+    requires fresh { AreFresh (length case.trace.now.messages) (map (option_map S.log) hands.items) }
     requires course { course_by (instance_of case) pace.workers pace.tick ≡ C.course }
-    ensures { IfOk result (λ turns. AreRunTurns C.course turns.items) }
+    requires asking { asking_of places.now case.trace.now.messages syncs.now ≡ C.asking }
+    ensures ran { IfOk result (λ ran. AreRunTurns C.course ran.turns.items) }
+    ensures asked { IfOk result (λ ran. AreAsked C.asking (map (option_map S.log) ran.hands.items)) }
 {
     let _messages = case.trace.len();
     let Ok(line) = Line::of(alloc, case, pace.workers, pace.tick) else {
@@ -70,15 +88,14 @@ fn run_at<C: RunOf + Send + Sync, R: Threads + Wait + Clock + Eprint + Sync, S: 
     let Ok(rooms) = rooms(alloc, places, longest, pace.workers) else {
         return Err(Stopped::Memory);
     };
-    let locked = Mutex::new(Locked::<C>::of(Going::of(line)));
+    let locked = Mutex::new(Locked::<C, S>::of(Going::of(line, hands)));
     let changed = Condvar::new();
     let offer = AtomicBool::new(false);
     let gate = Gate::new();
     let shared = Shared {
         case,
         store,
-        places,
-        syncs,
+        asking: Asking::of(places, case.trace, syncs),
         locked: &locked,
         changed: &changed,
         offer: &offer,
@@ -91,11 +108,11 @@ fn run_at<C: RunOf + Send + Sync, R: Threads + Wait + Clock + Eprint + Sync, S: 
     if started < pace.workers {
         return Err(Stopped::Threads(started));
     }
-    ended(alloc, &locked)
+    ended(alloc, locked)
 }
 
 /// Clears the line of progress, where one was told: what is told next has a line of its own.
-fn clear_progress<C: RunOf, R: Eprint>(rt: &R, locked: &Locked<'_, C>) {
+fn clear_progress<C: RunOf, R: Eprint, S: Store>(rt: &R, locked: &Locked<'_, C, S>) {
     if locked.told > 0 {
         let _ = rt.eprint(format_args!("\r{:33}\r", ""));
     }
@@ -137,18 +154,38 @@ fn rooms(
 }
 
 /// What happened, where the run came to its end.
-fn ended<C: RunOf>(alloc: Global, locked: &Locked<'_, C>) -> Result<Vec<Turn>, Stopped>
+fn ended<C: RunOf, S: Store>(
+    alloc: Global,
+    locked: Locked<'_, C, S>,
+) -> Result<Ran<S::Hand>, Stopped>
     requires { IsCourse C.course }
-    ensures { IfOk result (λ turns. AreRunTurns C.course turns.items) }
+    ensures ran { IfOk result (λ ran. AreRunTurns C.course ran.turns.items) }
+    ensures asked { IfOk result (λ ran. AreAsked C.asking (map (option_map S.log) ran.hands.items)) }
 {
-    if let Some(stopped) = locked.stopped {
+    let Locked { line, stopped, .. } = locked;
+    if let Some(stopped) = stopped {
         return Err(stopped);
     }
+    match turns_of(alloc, &line) {
+        Ok(turns) => Ok(Ran {
+            turns,
+            hands: line.into_hands(),
+        }),
+        Err(stopped) => Err(stopped),
+    }
+}
+
+/// The turns of a line, where all messages have ended.
+fn turns_of<C: RunOf, S: Store>(alloc: Global, line: &Going<'_, C, S>) -> Result<Vec<Turn>, Stopped>
+    requires { IsCourse C.course }
+    ensures ran { IfOk result (λ turns. AreRunTurns C.course turns.items) }
+    ensures ended { OnOk result (AreAllEnded C.course line.now.state) }
+{
     laws::run_obeys();
     laws::run_is_worker_plan();
     laws::workers_run_one();
     laws::runs_once();
-    let turns = locked.line.turns();
+    let turns = line.turns();
     if !have_ended(turns) {
         return Err(Stopped::Line);
     }
@@ -185,13 +222,7 @@ fn work<C: RunOf, R: Wait + Clock + Eprint, S: Store>(
         let Some(taken) = take(rt, shared, &begun, worker, last) else {
             return;
         };
-        match taken.perform(
-            shared.store,
-            shared.places,
-            shared.case.trace,
-            shared.syncs,
-            &mut *room,
-        ) {
+        match taken.perform(shared.store, &shared.asking, &mut *room) {
             Ok(performed) => last = Some(performed),
             Err(failed) => {
                 stop(rt, shared, failed);
@@ -203,7 +234,7 @@ fn work<C: RunOf, R: Wait + Clock + Eprint, S: Store>(
 }
 
 /// The run ends: the other workers stop when they have done what is at hand.
-fn stop<C: RunOf, R: Wait, S>(rt: &R, shared: &Shared<'_, '_, S, C>, failed: Failed<C>) {
+fn stop<C: RunOf, R: Wait, S: Store>(rt: &R, shared: &Shared<'_, '_, S, C>, failed: Failed<C>) {
     let why = failed.why();
     let mut guard = look(rt, shared.locked);
     guard.stop(why);
@@ -212,13 +243,13 @@ fn stop<C: RunOf, R: Wait, S>(rt: &R, shared: &Shared<'_, '_, S, C>, failed: Fai
 
 /// Ends the message that was performed, where there is one, and takes the next one that may begin; none where the
 /// run is over. The clock is read under the lock, so that messages join in the order of their issues.
-fn take<C: RunOf, R: Wait + Clock + Eprint, S>(
+fn take<C: RunOf, R: Wait + Clock + Eprint, S: Store>(
     rt: &R,
     shared: &Shared<'_, '_, S, C>,
     begun: &Instant,
     worker: u32,
-    last: Option<Performed<C>>,
-) -> Option<Taken<C>> {
+    last: Option<Performed<C, S>>,
+) -> Option<Taken<C, S>> {
     let mut guard = look(rt, shared.locked);
     if let Some(performed) = last {
         let now = nanos(rt, begun);
