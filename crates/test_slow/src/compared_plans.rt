@@ -12,7 +12,7 @@ use std::alloc::{AllocError, Global};
 use std::process::Abort;
 use waff_assign::{Case, assign};
 use waff_list::{Rule, WorkerPlan};
-use waff_model::{Tree, Version};
+use waff_model::Tree;
 use waff_order::predecessors::needs;
 use waff_plan::{Chain, Plan};
 use waff_read::{read_hierarchy, read_trace};
@@ -169,7 +169,7 @@ fn is_least(rt: &impl Abort, alloc: Global, work: &Work, case: &Case<'_>) {
 fn agree(rt: &impl Abort, alloc: Global, number: u32, hierarchy: &str, trace: &str) {
     let layout = read_hierarchy(alloc, hierarchy.as_bytes()).expect(rt, "a hierarchy");
     let trace = read_trace(alloc, &layout, trace.as_bytes()).expect(rt, "a trace");
-    assert!(rt; trace.version() != Version::V3);
+    assert!(rt; !trace.version().has_clients());
     let assigned = assign(alloc, &layout, &trace).expect(rt, "affinities");
     let needs = needs(alloc, layout.tree(), &assigned).expect(rt, "needs");
     let pairs = ordered(alloc, layout.tree(), &assigned).expect(rt, "pairs");

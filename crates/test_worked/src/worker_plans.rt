@@ -9,7 +9,6 @@ use std::fmt::Write;
 use std::process::Abort;
 use waff_assign::assign;
 use waff_list::{Rule, WorkerPlan, list_chain, list_plan_by};
-use waff_model::Version;
 use waff_model::limits::MAX_TICK;
 use waff_order::Needs;
 use waff_order::predecessors::needs;
@@ -53,7 +52,7 @@ fn is_told(rt: &impl Abort, alloc: Global, trace: &str, rule: Rule, k: u32, want
 {
     let layout = read_hierarchy(alloc, H1.as_bytes()).expect(rt, "a hierarchy");
     let trace = read_trace(alloc, &layout, trace.as_bytes()).expect(rt, "a trace");
-    assert!(rt; trace.version() != Version::V3);
+    assert!(rt; !trace.version().has_clients());
     let assigned = assign(alloc, &layout, &trace).expect(rt, "affinities");
     let needs = needs(alloc, layout.tree(), &assigned).expect(rt, "needs");
     let made = list_plan_by(alloc, &needs, &trace, rule, k).expect(rt, "a plan");
