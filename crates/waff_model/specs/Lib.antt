@@ -18,6 +18,7 @@ pub mod ParcelLaws
 pub mod Numbers
 pub mod Versions
 pub mod Clients
+pub mod Awaits
 pub mod Messages
 pub mod Later
 pub mod Blocks

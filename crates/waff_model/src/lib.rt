@@ -6,8 +6,8 @@
 //!   for the crates that plan and order.
 //! - `layout`, over `layout_rows` (what it is made of, and why that is refused) and `space`: which
 //!   affinity owns each cell; `parcels`: where a cell stands among the cells of its owner.
-//! - `trace`, over `parts`, `message`, `op`, `ops` over `packed_op`: messages with their costs, releases (in
-//!   ticks) and operations on cells.
+//! - `trace`, over `parts`, `message`, `awaits`, `op`, `ops` over `packed_op`: messages with their costs, releases
+//!   (in ticks), the messages that they await, and operations on cells.
 //! - `cell`, `client`, `kind`, `name`, `texts`: the small parts; `distinct_names`: names, each once;
 //!   `limits`: the limits of hierarchies, traces and plans; `format`: which of them hold of spaces.
 //! - `laws`: what holds of the parcels of all layouts.
@@ -28,6 +28,7 @@
 //! trace made by hand in `test_worked/src/building.rt`.
 #![tactic(auto)]
 
+mod awaits;
 mod cell;
 mod client;
 mod distinct_names;
@@ -52,6 +53,7 @@ mod texts;
 mod trace;
 mod tree;
 
+pub use awaits::{Await, Awaits};
 pub use cell::Cell;
 pub use client::Client;
 pub use distinct_names::DistinctNames;

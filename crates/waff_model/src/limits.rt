@@ -45,7 +45,10 @@ pub const MAX_COST: u32 = 1_000_000;
 /// The release of a message, in ticks.
 pub const MAX_RELEASE: u32 = 1_000_000_000;
 
-/// The think time of a message, in ticks.
+/// The messages that those of a trace await by their lists, in all.
+pub const MAX_AWAITED: usize = 4_194_304;
+
+/// The think time of a message, and the gap behind a message that is awaited, in ticks.
 pub const MAX_THINK: u32 = 10_000_000;
 
 /// Workers of a plan.

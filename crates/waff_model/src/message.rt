@@ -3,18 +3,20 @@
 ghost use Rattle.std.specs.Prelude.{◌≡◌};
 ghost use Rattle.waff_model.specs.Versions as versions;
 
+use crate::awaits::Awaits;
 use crate::client::Client;
 use crate::limits::{MAX_EARLIER_MESSAGES, MAX_EARLIER_OPS, MAX_MESSAGES, MAX_OPS};
 use crate::name::Text;
 use crate::ops::Ops;
 
-/// The version of a trace: in the first every release is 0, and before the third no message is of
-/// a client.
+/// The version of a trace: in the first every release is 0, before the third no message is of a client, and
+/// before the fourth none has a list of messages that it awaits.
 #[derive(Clone, Copy, Debug, PartialEq)]
 pub enum Version {
     V1,
     V2,
     V3,
+    V4,
 }
 
 impl Version {
@@ -26,6 +28,7 @@ impl Version {
             Version::V1 => 1,
             Version::V2 => 2,
             Version::V3 => 3,
+            Version::V4 => 4,
         }
     }
 
@@ -35,7 +38,7 @@ impl Version {
     {
         match self {
             Version::V1 => false,
-            Version::V2 | Version::V3 => true,
+            Version::V2 | Version::V3 | Version::V4 => true,
         }
     }
 
@@ -45,7 +48,17 @@ impl Version {
     {
         match self {
             Version::V1 | Version::V2 => false,
-            Version::V3 => true,
+            Version::V3 | Version::V4 => true,
+        }
+    }
+
+    /// Whether messages of the version have lists of those that they await.
+    pub fn has_after(self) -> bool
+        ensures { result ≡ versions.has_after self }
+    {
+        match self {
+            Version::V1 | Version::V2 | Version::V3 => false,
+            Version::V4 => true,
         }
     }
 
@@ -55,7 +68,7 @@ impl Version {
     {
         match self {
             Version::V1 | Version::V2 => MAX_EARLIER_MESSAGES,
-            Version::V3 => MAX_MESSAGES,
+            Version::V3 | Version::V4 => MAX_MESSAGES,
         }
     }
 
@@ -65,7 +78,7 @@ impl Version {
     {
         match self {
             Version::V1 | Version::V2 => MAX_EARLIER_OPS,
-            Version::V3 => MAX_OPS,
+            Version::V3 | Version::V4 => MAX_OPS,
         }
     }
 }
@@ -83,5 +96,7 @@ pub struct Message {
     pub client: Client,
     /// How long the client thinks before it issues the message, in ticks.
     pub think: u32,
+    /// The earlier messages that it awaits besides the one before it of its client.
+    pub after: Awaits,
     pub ops: Ops,
 }

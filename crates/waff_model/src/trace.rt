@@ -4,9 +4,10 @@ ghost use Rattle.std.specs.Prelude.{◌≡◌, ◌+◌, ◌-◌, ◌<◌, ◌≤
 ghost use Rattle.std.specs.Prelude.{All, IsTrue, IfOk, OnOk, OnErr, slice_get};
 ghost use Rattle.std.specs.Prelude.{◌==◌};
 ghost use Rattle.std.specs.List.{list_all, zip};
+ghost use Rattle.waff_model.specs.Awaits.{AreLists, IsList, awaited_in};
 ghost use Rattle.waff_model.specs.Messages.{sizes_of};
 ghost use Rattle.waff_model.specs.Versions.{max_messages};
-ghost use Rattle.waff_model.specs.declared.limits.TheConstants.{MAX_ALL_OPS, MAX_MESSAGES};
+ghost use Rattle.waff_model.specs.declared.limits.TheConstants.{MAX_ALL_OPS, MAX_AWAITED, MAX_MESSAGES};
 
 use crate::layout::Layout;
 use crate::message::{Message, Version};
@@ -88,6 +89,8 @@ impl Trace {
         requires messages { All (IsMessage version (sizes_of layout.now.spaces)) messages }
         requires few { length messages ≤ max_messages version }
         requires few_ops { ops_in messages ≤ MAX_ALL_OPS }
+        requires lists { AreLists 1 messages }
+        requires few_awaited { awaited_in messages ≤ MAX_AWAITED }
         ensures { IfOk result (λ t. t ≡ record {
           version = version;
           sizes = sizes_of layout.now.spaces;
@@ -114,7 +117,7 @@ impl Trace {
         have_sizes(layout.spaces(), &self.sizes)
     }
 
-    /// The version of the format: the first has no releases, and the third alone has clients.
+    /// The version of the format.
     pub fn version(&self) -> Version
         ensures { result ≡ self.now.version }
     {
@@ -126,6 +129,8 @@ impl Trace {
         requires message { IsMessage self.old.version self.old.sizes message }
         requires room { length self.old.messages < max_messages self.old.version }
         requires few_ops { ops_in self.old.messages + length message.ops ≤ MAX_ALL_OPS }
+        requires list { IsList (length self.old.messages + 1) message.after }
+        requires few_awaited { awaited_in self.old.messages + length message.after ≤ MAX_AWAITED }
         ensures pushed { OnOk result (self.new
             ≡ record self.old { messages = self.old.messages ++ message ∷ [] }) }
         ensures unchanged { OnErr result (self.new ≡ self.old) }
@@ -161,6 +166,7 @@ impl Trace {
         requires number { IsAmongFirst (length self.now.messages) number }
         ensures message { slice_get self.now.messages (number - 1) ≡ Some result.now }
         ensures within { IsMessage self.now.version self.now.sizes result.now }
+        ensures list { IsList number result.now.after }
     {
         self.messages.get(number as usize - 1)
     }

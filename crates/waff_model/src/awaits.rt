@@ -1,0 +1,79 @@
+//! What messages await.
+
+ghost use Rattle.std.specs.Prelude.{◌≡◌, [], IfOk};
+
+use std::alloc::{AllocError, Global};
+use std::marker::Model;
+
+/// A message that another awaits, and how many ticks after its finish the other is issued at the soonest.
+#[derive(Clone, Copy, Debug, PartialEq)]
+pub struct Await {
+    /// The number of the message that is awaited, from 1.
+    pub message: u32,
+    /// The gap, in ticks.
+    pub gap: u32,
+}
+
+/// The messages that a message awaits by its list. A list lies elsewhere, so that the many messages that have
+/// none are hardly longer for it.
+pub struct Awaits {
+    list: Option<Box<Vec<Await>>>,
+}
+
+impl Model for Awaits {
+    ghost use Rattle.std.specs.Prelude.{List, [], option_map, unwrap_or};
+    ghost use Rattle.waff_model.specs.declared.awaits.Await.{Await};
+
+    ghost Value = { List Await };
+
+    ghost view = { λ a. unwrap_or (option_map (λ list. list.value.items) a.list) [] };
+}
+
+// Written out: a derived drop is proved again in each crate that lets go of the value.
+impl Drop for Awaits {
+    fn drop(self) {
+        let Awaits { list } = self;
+        drop(list);
+    }
+}
+
+impl Awaits {
+    /// No message.
+    pub fn none() -> Self
+        ensures { result ≡ [] }
+    {
+        Awaits { list: None }
+    }
+
+    /// These messages.
+    pub fn of(alloc: Global, list: Vec<Await>) -> Result<Self, AllocError>
+        ensures { IfOk result (λ awaits. awaits ≡ list.items) }
+    {
+        if list.is_empty() {
+            return Ok(Awaits::none());
+        }
+        Ok(Awaits {
+            list: Some(Box::new(alloc, list)?),
+        })
+    }
+
+    /// The same messages.
+    pub fn copy(&self, alloc: Global) -> Result<Self, AllocError>
+        ensures { IfOk result (λ awaits. awaits ≡ self.now) }
+    {
+        match &self.list {
+            Some(list) => Awaits::of(alloc, Vec::from_slice(alloc, list.as_slice())?),
+            None => Ok(Awaits::none()),
+        }
+    }
+
+    /// The messages.
+    pub fn as_slice(&self) -> &[Await]
+        ensures { result.now ≡ self.now }
+    {
+        match &self.list {
+            Some(list) => list.as_slice(),
+            None => &[],
+        }
+    }
+}
