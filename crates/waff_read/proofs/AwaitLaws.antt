@@ -1,6 +1,6 @@
 -- The list of a message, piece by piece.
 use Rattle.std.proofs.Common.{◌≡◌, ℕ, zero, suc, ◌+◌, ◌-◌, ◌<◌, ◌≤◌, List, [], ◌∷◌, ◌++◌, length, get_or, drop, Bool, true, false, Option, Some, None, Result, Ok, Err, refl, sym, ap, ◌∙◌, append_assoc, arith}
-use Rattle.std.specs.Prelude.{All, AllPairs, IfErr, IfOk, ok_or, option_and_then, option_map, nat_le, nat_lt, ◌==◌, ◌&&◌, if◌then◌else◌}
+use Rattle.std.specs.Prelude.{All, AllPairs, IfErr, IfOk, ok_or, option_and_then, nat_le, nat_lt, ◌==◌, ◌&&◌, if◌then◌else◌}
 use Rattle.std.proofs.Math.Seq.{drop-length}
 use Rattle.std.proofs.lemmas.Bool.{and_parts, le-leb, le-ltb, leb-false, leb-true, lt-ltb, ltb-false, ltb-true}
 use Rattle.std.proofs.lemmas.List.{append-nil, drop_more}
@@ -10,7 +10,7 @@ use Rattle.waff_model.specs.declared.awaits.Await.{Await}
 use Rattle.waff_model.specs.declared.limits.TheConstants.{MAX_THINK}
 use Rattle.waff_model.proofs.TraceLemmas.{no_list}
 use Rattle.waff_parse.specs.Fields.{Field}
-use Rattle.waff_parse.specs.Refusals.{◌>>=◌, both, least, one}
+use Rattle.waff_parse.specs.Refusals.{◌>>=◌, both, one}
 use Rattle.waff_parse.specs.Texts.{number_of, number_within, parts, parts_after, within}
 use Rattle.waff_parse.specs.Walks.{gather, with_front}
 use Rattle.waff_parse.proofs.TextLaws.{parts-cons}

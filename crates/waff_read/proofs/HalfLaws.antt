@@ -25,7 +25,7 @@ use Rattle.waff_read.specs.declared.trace_fault.TraceFault.{TraceFault}
 use Rattle.waff_read.specs.declared.trace_fault.TraceError.{TraceError}
 use Rattle.waff_read.proofs.ExactLaws.{columns-read, read-columns}
 use Rattle.waff_read.proofs.MessageLaws.{fits-most}
-use Rattle.waff_read.proofs.TraceLaws.{fits-message, is-ok, message_at-no-text, message_at-text, messages-few, none_read, ops-few, ops_in-cons, parts_of}
+use Rattle.waff_read.proofs.TraceLaws.{fits-message, is-ok, message_at-no-text, message_at-text, none_read, ops_in-cons, parts_of}
 
 -- what is known of an answer is known of its value
 pub some-has : {A : Type 0} (P : A → Type 0) (o : Option A) (x : A) → o ≡ Some x → IfSome o P → P x

@@ -25,7 +25,8 @@ or_range range (Err e) = Err e
 -- the operations for which a piece stands: one, or from the third version on those of a range
 unfoldable pub piece_of : Version → List Space → List ℕ → Result (List Op) TraceFault
 piece_of version spaces piece =
-    if has_clients version then or_range (ops_of_range (range_of spaces piece)) (one (op_of spaces piece))
+    if has_clients version then or_range (ops_of_range (range_of spaces piece))
+    (one (op_of spaces piece))
     else one (op_of spaces piece)
 
 -- lists that are read, one behind the other

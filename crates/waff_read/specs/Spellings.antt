@@ -1,5 +1,6 @@
 -- Messages as a trace spells them.
-use Rattle.std.specs.Prelude.{List, ℕ, ◌^◌, ◌<◌, ◌==◌, [], ◌∷◌, map, unwrap_or, codes, if◌then◌else◌}
+use Rattle.std.specs.Prelude.{List, ℕ, ◌^◌, ◌<◌, ◌==◌, [], ◌∷◌, map, unwrap_or, codes}
+use Rattle.std.specs.Prelude.{if◌then◌else◌}
 use Rattle.std.specs.Fmt.{decimal}
 use Rattle.std.specs.List.{flat_map, join_with_byte}
 use Rattle.csv.specs.Writing.{default_writer, row_text}

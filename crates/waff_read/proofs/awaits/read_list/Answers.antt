@@ -1,5 +1,5 @@
 -- The messages so far, and those of the pieces left, are those of all pieces.
-use Rattle.std.proofs.Common.{length, ◌∙◌, sym, ap, arith, rules, lit<}
+use Rattle.std.proofs.Common.{length, ◌∙◌, sym, rules, lit<}
 use Rattle.std.proofs.lemmas.Iterator.Consumers.{YieldsList-end, YieldsList-turn}
 use Rattle.std.proofs.lemmas.Iterator.Splits.{YieldsList-from_str_split}
 use Rattle.std.proofs.lemmas.List.{length_push}
