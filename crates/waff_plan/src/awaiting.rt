@@ -1,16 +1,19 @@
 //! Who awaits whom, and which messages await none.
 
-ghost use Rattle.std.specs.Prelude.{◌≤◌, length, IfOk, []};
+ghost use Rattle.std.specs.Prelude.{◌≤◌, length, map, All, IfOk, OnOk, []};
+ghost use Rattle.waff_model.specs.Numbers.{IsAmongFirst};
 ghost use Rattle.waff_model.specs.declared.limits.TheConstants.{MAX_MESSAGES};
 ghost use Rattle.waff_plan.specs.Awaiting.{AreAwaiting};
 ghost use Rattle.waff_plan.specs.Obeys.{AwaitsEarlier};
 ghost use Rattle.waff_plan.specs.Pending.{AreFirst};
 ghost use Rattle.waff_plan.specs.Timing.{work_of};
 ghost use Rattle.waff_plan.specs.Work.{issue_of};
+ghost use Rattle.waff_waits.specs.Waits.{Enters};
 
 use crate::{Due, Timing};
 use std::alloc::{AllocError, Global};
 use std::cmp::Reverse;
+use waff_model::Await;
 use waff_waits::Waits;
 
 /// Each message waits for those that it awaits.
@@ -21,12 +24,25 @@ pub fn awaiting(alloc: Global, timings: &[Timing]) -> Result<Waits, AllocError>
 {
     let mut waits = Waits::none(alloc, timings.len())?;
     for m in 1..timings.len() as u32 + 1 {
-        let message = timings[m as usize - 1].follows;
-        if message != 0 {
-            waits.enter(m, &[message])?;
+        let timing = &timings[m as usize - 1];
+        if timing.follows != 0 {
+            waits.enter(m, &[timing.follows])?;
         }
+        enter_all(&mut waits, m, timing.after.as_slice())?;
     }
     Ok(waits)
+}
+
+/// Message `m` waits for each of these.
+fn enter_all(waits: &mut Waits, m: u32, after: &[Await]) -> Result<(), AllocError>
+    requires number { IsAmongFirst (length waits.old.awaited) m }
+    requires awaited { All (λ a. IsAmongFirst (length waits.old.awaited) a.message) after.now }
+    ensures { OnOk result (Enters waits.old m (map (λ a. a.message) after.now) waits.new) }
+{
+    for k in 0..after.len() {
+        waits.enter(m, &[after[k].message])?;
+    }
+    Ok(())
 }
 
 /// The messages that await none, which are issued at their floors.
@@ -36,8 +52,8 @@ pub fn first_issues(alloc: Global, timings: &[Timing]) -> Result<Due, AllocError
 {
     let mut issues = Vec::with_capacity(alloc, timings.len())?;
     for m in 1..timings.len() as u32 + 1 {
-        let timing = timings[m as usize - 1];
-        if timing.follows == 0 {
+        let timing = &timings[m as usize - 1];
+        if timing.follows == 0 && timing.after.as_slice().is_empty() {
             issues.push_reserved(Reverse((u64::from(timing.floor), m)));
         }
     }

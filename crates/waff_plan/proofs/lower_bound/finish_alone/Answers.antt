@@ -1,6 +1,6 @@
 -- The finish of a message by that of the one that it follows.
 use Rattle.std.proofs.Common.{◌≡◌, ◌≢◌, ◌+◌, ◌-◌, get_or, arith, sym, ◌∙◌, ap}
-use Rattle.waff_plan.specs.LowerBound.{client_finish}
+use Rattle.waff_plan.specs.LowerBound.{earliest_finish}
 use Rattle.waff_plan.specs.Timing.{timing_of}
 use Rattle.waff_plan.specs.Timetable.{work_in}
 use Rattle.waff_plan.proofs.FollowLemmas.{awaits_it, issue_after_none, issue_after_one}
@@ -50,15 +50,15 @@ returns c =
     let by = client_is work earlier n c.requires.number in
     elim c.if-before-eq0.branch [
       | then-before-eq0 w ↦
-          (let none = issue_after_none (client_finish work) (work.floor n) timing.follows timing.think (sym is ∙ w.if-before-eq0.true) in
+          (let none = issue_after_none (earliest_finish work) (work.floor n) timing.follows timing.think (sym is ∙ w.if-before-eq0.true) in
           omega (arith, w.issue-is, w.release-issue.ensures.release, c.cost.ensures.cost, by, none))
       | else-before-eq0 w ↦
           (let not_none : timing.follows ≢ 0 = λ none. w.if-before-eq0.false (is ∙ none) in
           let before = earlier timing.follows n (awaits_it timing.follows timing.think not_none) in
-          let issue = issue_after_one (client_finish work) (work.floor n) timing.follows timing.think not_none in
-          let read : get_or c.args.finishes.now (f - 1) 0 ≡ client_finish work (f - 1 + 1)
+          let issue = issue_after_one (earliest_finish work) (work.floor n) timing.follows timing.think not_none in
+          let read : get_or c.args.finishes.now (f - 1) 0 ≡ earliest_finish work (f - 1 + 1)
           = finish_at work c.args.finishes.now c.requires.finishes (omega (arith, c.requires.before, c.requires.number.to)) (f - 1) (omega (arith, is, before.from, before.earlier, c.requires.before)) in
-          let same : client_finish work (f - 1 + 1) ≡ client_finish work timing.follows
-          = ap (client_finish work) (let one : f - 1 + 1 ≡ timing.follows = omega (arith, is, before.from) in one) in
+          let same : earliest_finish work (f - 1 + 1) ≡ earliest_finish work timing.follows
+          = ap (earliest_finish work) (let one : f - 1 + 1 ≡ timing.follows = omega (arith, is, before.from) in one) in
           omega (arith, w.issue-is, w.max-issue.ensures, w.release.ensures.release, w.think.ensures.think, c.cost.ensures.cost, read, same, by, issue))
     ]

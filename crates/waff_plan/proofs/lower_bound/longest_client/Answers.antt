@@ -1,7 +1,7 @@
 -- The finish of one message after another.
 use Rattle.std.proofs.Common.{◌≡◌, ◌+◌, ◌-◌, map, arith, sym, ◌∙◌, ap, subst}
 use Rattle.std.specs.List.{range_with_len}
-use Rattle.waff_plan.specs.LowerBound.{client_finish}
+use Rattle.waff_plan.specs.LowerBound.{earliest_finish}
 use Rattle.waff_plan.specs.Peak.{IsPeak}
 use Rattle.waff_plan.specs.Timetable.{work_in}
 use Rattle.waff_plan.proofs.LowerBounds.{finishes_count, finishes_more}
@@ -11,7 +11,7 @@ pub finish_alone-finish-requires-clause-finishes : goal.finish_alone-finish-requ
 finish_alone-finish-requires-clause-finishes c =
     let work = work_in c.args.plan.now in
     let are = c.loop-n.invariant.finishes in
-    rw c.deref.ensures.value (are ∙ ap (λ k. map (client_finish work) (range_with_len 1 k)) (sym (finishes_count work c.loop-n.n c.loop-n.finishes.items are)))
+    rw c.deref.ensures.value (are ∙ ap (λ k. map (earliest_finish work) (range_with_len 1 k)) (sym (finishes_count work c.loop-n.n c.loop-n.finishes.items are)))
 
 pub finish_alone-finish-requires-clause-before : goal.finish_alone-finish-requires-clause-before
 finish_alone-finish-requires-clause-before c =
@@ -24,9 +24,9 @@ loop-n-preserved c =
     let finish = c.finish_alone-finish.ensures in
     record {
       finishes = finishes_more work c.loop-n.n c.finish_alone-finish.result c.loop-n.finishes.items c.push.new.self.items c.loop-n.auto.n c.loop-n.invariant.finishes finish c.in_ok-push.ensures.items;
-      longest = subst (λ k. IsPeak (client_finish work) 1 k c.or-longest.result) (let next : c.loop-n.n - 1 + 1 ≡ c.loop-n.n + 1 - 1 = omega (arith, c.loop-n.auto.n) in next)
-          (c.or-longest.ensures (client_finish work) 1 (c.loop-n.n - 1) (omega (arith, c.loop-n.auto.n)) (sym finish) c.loop-n.invariant.longest);
+      longest = subst (λ k. IsPeak (earliest_finish work) 1 k c.or-longest.result) (let next : c.loop-n.n - 1 + 1 ≡ c.loop-n.n + 1 - 1 = omega (arith, c.loop-n.auto.n) in next)
+          (c.or-longest.ensures (earliest_finish work) 1 (c.loop-n.n - 1) (omega (arith, c.loop-n.auto.n)) (sym finish) c.loop-n.invariant.longest);
     }
 
 pub loop-n-init : goal.loop-n-init
-loop-n-init c = record { finishes = c.in_ok-finishes.ensures.items; longest = c.none-longest.ensures (client_finish (work_in c.args.plan.now)) 1 }
+loop-n-init c = record { finishes = c.in_ok-finishes.ensures.items; longest = c.none-longest.ensures (earliest_finish (work_in c.args.plan.now)) 1 }
