@@ -15,7 +15,7 @@ use Rattle.waff_assign.proofs.Knowing.{affinity_known}
 use Rattle.waff_plan.specs.Apart.{AreApart}
 use Rattle.waff_plan.specs.Bound.{IsWorkers}
 use Rattle.waff_plan.specs.Instances.{served_first, work_of_instance}
-use Rattle.waff_plan.specs.LowerBound.{ObeysInSomeOrder, client_finish, lower_bound_of, path_cost, share_in}
+use Rattle.waff_plan.specs.LowerBound.{ObeysInSomeOrder, earliest_finish, lower_bound_of, path_cost, share_in}
 use Rattle.waff_plan.specs.Obeys.{EachRuns, IsLeast, Obeys}
 use Rattle.waff_plan.specs.Peak.{IsPeak}
 use Rattle.waff_plan.specs.Serving.{IsStartedBefore, served_before}
@@ -81,7 +81,7 @@ module _ (instance : Instance) (layout : Hierarchy) (under : IsUnder layout inst
       let cells : ℕ = max (ticks_of limits.writes) (max (ticks_of limits.cell) limits.path.ticks) in
       ap (λ n. max n (max limits.client.ticks cells)) share
       ∙ ap (λ n. max (share_in workers (total_of work)) (max n cells)) are.client.ticks
-      ∙ ap (λ n. max (share_in workers (total_of work)) (max (greatest (map (client_finish work) (range_with_len 1 work.count))) n)) (most ∙ are.path.ticks)
+      ∙ ap (λ n. max (share_in workers (total_of work)) (max (greatest (map (earliest_finish work) (range_with_len 1 work.count))) n)) (most ∙ are.path.ticks)
 
   pub none_below : (workers : Option ℕ) (start other : ℕ → ℕ) (limits : Limits) → IfSome workers IsWorkers → AreLimits instance start limits
       → ObeysInSomeOrder instance.tree instance.assigned work workers other → greatest_limit workers limits ≤ length_of work other
@@ -231,7 +231,7 @@ pub limits_are_one : (instance : Instance) → LimitsAreOne instance
 limits_are_one instance start other one another same p q =
     let work = work_of_instance instance in
     same_limits one another (p.total ∙ sym q.total)
-    (peak_is_one (client_finish work) 1 work.count one.client another.client p.client q.client)
+    (peak_is_one (earliest_finish work) 1 work.count one.client another.client p.client q.client)
     (most_of_is_one (ticks_shared instance.trace.messages) one.writes another.writes p.writes q.writes)
     (most_of_is_one (ticks_on instance.trace.messages) one.cell another.cell p.cell q.cell)
     (peak_is_one (path_cost instance.tree instance.assigned work) 0 (length instance.tree) one.path another.path p.path q.path)

@@ -10,7 +10,7 @@ use Rattle.waff_assign.specs.Instance.{Instance, before_in}
 use Rattle.waff_assign.specs.Lowest.{IsAssignment}
 use Rattle.waff_plan.specs.Bound.{IsWorkers}
 use Rattle.waff_plan.specs.Instances.{served_first, work_of_instance}
-use Rattle.waff_plan.specs.LowerBound.{ObeysInSomeOrder, client_finish, lower_bound_of, path_cost, share_in}
+use Rattle.waff_plan.specs.LowerBound.{ObeysInSomeOrder, earliest_finish, lower_bound_of, path_cost, share_in}
 use Rattle.waff_plan.specs.Obeys.{AwaitsEarlier, IsLeast, Obeys}
 use Rattle.waff_plan.specs.ServesAs.{ServesAs}
 use Rattle.waff_plan.specs.Timetable.{work_of_messages}
@@ -103,8 +103,8 @@ PathIsReached instance =
 abbrev pub ClientsFinish : Work → Type 0
 ClientsFinish work =
     AwaitsEarlier work → (m : ℕ) → IsNumber work m
-    → client_finish work m
-    ≡ issue_after (client_finish work) (work.floor m) (work.awaits m) + work.cost m
+    → earliest_finish work m
+    ≡ issue_after (earliest_finish work) (work.floor m) (work.awaits m) + work.cost m
 
 -- what limits a workload is one
 abbrev pub LimitsAreOne : Instance → Type 0

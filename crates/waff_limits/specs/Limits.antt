@@ -7,7 +7,7 @@ use Rattle.waff_read.specs.Spellings.{cell_spelled}
 use Rattle.waff_assign.specs.Instance.{Instance}
 use Rattle.waff_plan.specs.Instances.{work_of_instance}
 use Rattle.waff_plan.specs.Laws.{share_of}
-use Rattle.waff_plan.specs.LowerBound.{client_finish, path_cost}
+use Rattle.waff_plan.specs.LowerBound.{earliest_finish, path_cost}
 use Rattle.waff_plan.specs.Peak.{IsPeak}
 use Rattle.waff_plan.specs.Timetable.{message_of}
 use Rattle.waff_plan.specs.Work.{length_of, total_of}
@@ -24,7 +24,7 @@ use Rattle.waff_limits.specs.declared.limits.Limits.{Limits}
 -- longest, the cell that is needed longest where those that only read it share it, the cell that is used longest, the affinity that has the most to run in it and above it, and the length of that plan
 pub record AreLimits (instance : Instance) (start : ℕ → ℕ) (limits : Limits) : Type 0 where
   pub total : limits.total ≡ total_of (work_of_instance instance)
-  pub client : IsPeak (client_finish (work_of_instance instance)) 1 (work_of_instance instance).count limits.client
+  pub client : IsPeak (earliest_finish (work_of_instance instance)) 1 (work_of_instance instance).count limits.client
   pub writes : IsMostOf (ticks_shared instance.trace.messages) limits.writes
   pub cell : IsMostOf (ticks_on instance.trace.messages) limits.cell
   pub path : IsPeak (path_cost instance.tree instance.assigned (work_of_instance instance)) 0 (length instance.tree) limits.path

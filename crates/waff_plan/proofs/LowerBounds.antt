@@ -1,6 +1,6 @@
 -- No plan that obeys is shorter than its share of the work, than what one client needs, or than what
 -- runs on one path of affinities.
-use Rattle.std.proofs.Common.{◌≡◌, ℕ, zero, suc, ◌+◌, ◌-◌, ◌*◌, ◌^◌, ◌<◌, ◌≤◌, inl, inr, true, Bool, cond, eqb, max, List, [], ◌∷◌, ◌++◌, All, map, length, get_or, set, sum_by, count_by, Option, Some, None, IfSome, arith, refl, sym, ◌∙◌, ap, subst}
+use Rattle.std.proofs.Common.{◌≡◌, ℕ, zero, suc, ◌+◌, ◌-◌, ◌*◌, ◌^◌, ◌<◌, ◌≤◌, inl, inr, true, Bool, cond, eqb, List, [], ◌∷◌, ◌++◌, All, map, length, get_or, set, sum_by, count_by, Option, Some, None, IfSome, arith, refl, sym, ◌∙◌, ap, subst}
 use Rattle.std.specs.List.{range_with_len}
 use Rattle.std.proofs.lemmas.Bool.{cases_Bool, cases_eq, cases_lt, cond-true, cond-false, eq-eqb, ne_eqb}
 use Rattle.std.proofs.lemmas.List.{get_or_past, get_or-set_other, get_or-set_same}
@@ -13,14 +13,15 @@ use Rattle.waff_assign.specs.Order.{IsOrdered, affinity_of}
 use Rattle.waff_plan.specs.Apart.{AreApart}
 use Rattle.waff_plan.specs.Bound.{IsWorkers}
 use Rattle.waff_plan.specs.IssueLaws.{StartsIssued}
-use Rattle.waff_plan.specs.LowerBound.{NoneIsBelow, client_finish, cost_by, cost_in, finish_by, of_parent, own_cost, path_cost, share_in}
+use Rattle.waff_plan.specs.LowerBound.{NoneIsBelow, earliest_finish, cost_by, cost_in, finish_by, of_parent, own_cost, path_cost, share_in}
 use Rattle.waff_plan.specs.Obeys.{AwaitsEarlier}
-use Rattle.waff_plan.specs.Timing.{IsTiming, no_timing, timing_of, work_of}
+use Rattle.waff_plan.specs.Timing.{IsTiming, no_timing, timing_of, work_by}
+use Rattle.waff_plan.specs.declared.timing.Awaited.{Awaited}
 use Rattle.waff_plan.specs.declared.timing.Timing.{Timing}
 use Rattle.waff_plan.specs.Work.{Await, IsAwaited, IsNumber, Work, finish_of, gap_of, greatest, issue_after, length_of, numbers, total_of}
 use Rattle.waff_plan.specs.Workers.{IsWorkerPlan, running, runs_at}
 use Rattle.waff_plan.proofs.ApartLaws.{runs_from, runs_parts}
-use Rattle.waff_plan.proofs.FollowLemmas.{gap_within}
+use Rattle.waff_plan.proofs.FollowLemmas.{gap_limit}
 use Rattle.waff_plan.proofs.Holding.{floor-le-issue, issue_again, issue_sooner, issued_by}
 use Rattle.waff_plan.proofs.Longest.{finish_of-le-length_of, length_of-le, sum_more}
 use Rattle.waff_plan.proofs.Shares.{share_is_within}
@@ -66,9 +67,9 @@ finish_within work other follows issued (suc n) m number =
     )
 
 clients_below : (work : Work) (other : ℕ → ℕ) → AwaitsEarlier work → StartsIssued work other
-    → greatest (map (client_finish work) (numbers work)) ≤ length_of work other
+    → greatest (map (earliest_finish work) (numbers work)) ≤ length_of work other
 clients_below work other follows issued =
-    greatest_within (client_finish work) 1 work.count (length_of work other)
+    greatest_within (earliest_finish work) 1 work.count (length_of work other)
     (λ m from below.
     let number : IsNumber work m = record { from = from; to = omega (arith, below) } in
     omega (arith, finish_within work other follows issued m m number, finish_of-le-length_of work other m number))
@@ -287,11 +288,11 @@ module _ (work : Work) (follows : AwaitsEarlier work) where
       (λ i awaited. let before = follows i m awaited in enough n k i (omega (arith, before.earlier, few)) (omega (arith, before.earlier, also))))
 
   -- by the messages that it awaits
-  pub client_is : (m : ℕ) → IsNumber work m → client_finish work m ≡ issue_after (client_finish work) (work.floor m) (work.awaits m) + work.cost m
-  client_is zero number = absurd (omega (arith, number.from))
-  client_is (suc k) number =
+  pub earliest_is : (m : ℕ) → IsNumber work m → earliest_finish work m ≡ issue_after (earliest_finish work) (work.floor m) (work.awaits m) + work.cost m
+  earliest_is zero number = absurd (omega (arith, number.from))
+  earliest_is (suc k) number =
       ap (λ issue. issue + work.cost (suc k))
-      (issue_again (finish_by work k) (client_finish work) (work.floor (suc k)) (work.awaits (suc k))
+      (issue_again (finish_by work k) (earliest_finish work) (work.floor (suc k)) (work.awaits (suc k))
       (λ i awaited. let before = follows i (suc k) awaited in enough k i i (omega (arith, before.earlier)) (omega arith)))
 
 -- the costs in an affinity and above it, by those of its parent
@@ -403,20 +404,20 @@ small_more costs n a now cost from within so_far is small b there = elim (cases_
 ]
 
 -- the timings of messages are small
-pub timing_limits : (timings : List Timing) → All IsTiming timings → AreLimits (work_of timings)
-timing_limits timings small m number =
+pub timing_limits : (awaited : Awaited) (timings : List Timing) → All IsTiming timings → AreLimits (work_by awaited timings)
+timing_limits awaited timings small m number =
     let timing = small (m - 1) no_timing (omega (arith, number.from, number.to)) in
     let at = timing_of timings m in (
       omega (arith, timing.floor),
-      (λ i. let within = gap_within at.follows at.think i in omega (arith, within, timing.think)),
+      (λ i. let within = gap_limit awaited at i timing in omega (arith, within)),
       omega (arith, timing.cost),
     )
 
 -- the finishes of the first messages
-module _ (work : Work) (finishes : List ℕ) (are : finishes ≡ map (client_finish work) (range_with_len 1 (length finishes))) (few : length finishes ≤ work.count) where
-  pub finish_at : (i : ℕ) → i < length finishes → get_or finishes i 0 ≡ client_finish work (i + 1)
+module _ (work : Work) (finishes : List ℕ) (are : finishes ≡ map (earliest_finish work) (range_with_len 1 (length finishes))) (few : length finishes ≤ work.count) where
+  pub finish_at : (i : ℕ) → i < length finishes → get_or finishes i 0 ≡ earliest_finish work (i + 1)
   finish_at i within =
-      ap (λ xs. get_or xs i 0) are ∙ get_or-map-range_with_len (client_finish work) 1 (length finishes) i (i + 1) 0 within (omega arith)
+      ap (λ xs. get_or xs i 0) are ∙ get_or-map-range_with_len (earliest_finish work) 1 (length finishes) i (i + 1) 0 within (omega arith)
 
   pub each_small : AwaitsEarlier work → AreLimits work → (i : ℕ) → get_or finishes i 0 ≤ 2 ^ 30 + length finishes * 2 ^ 25
   each_small follows limits i = elim (cases_lt i (length finishes)) [
@@ -427,11 +428,11 @@ module _ (work : Work) (finishes : List ℕ) (are : finishes ≡ map (client_fin
   ]
 
 -- one more finish
-pub finishes_more : (work : Work) (n finish : ℕ) (old new : List ℕ) → 1 ≤ n → old ≡ map (client_finish work) (range_with_len 1 (n - 1)) → finish ≡ client_finish work n
-    → new ≡ old ++ finish ∷ [] → new ≡ map (client_finish work) (range_with_len 1 (n + 1 - 1))
+pub finishes_more : (work : Work) (n finish : ℕ) (old new : List ℕ) → 1 ≤ n → old ≡ map (earliest_finish work) (range_with_len 1 (n - 1)) → finish ≡ earliest_finish work n
+    → new ≡ old ++ finish ∷ [] → new ≡ map (earliest_finish work) (range_with_len 1 (n + 1 - 1))
 finishes_more work n finish old new from so_far is more =
     let next : n + 1 - 1 ≡ n - 1 + 1 = omega (arith, from) in
-    rw (more, is, so_far, next) (sym (map-range_with_len_more (client_finish work) 1 (n - 1) n (omega (arith, from))))
+    rw (more, is, so_far, next) (sym (map-range_with_len_more (earliest_finish work) 1 (n - 1) n (omega (arith, from))))
 
-pub finishes_count : (work : Work) (n : ℕ) (finishes : List ℕ) → finishes ≡ map (client_finish work) (range_with_len 1 (n - 1)) → length finishes ≡ n - 1
-finishes_count work n finishes are = ap length are ∙ length-map-range_with_len (client_finish work) 1 (n - 1)
+pub finishes_count : (work : Work) (n : ℕ) (finishes : List ℕ) → finishes ≡ map (earliest_finish work) (range_with_len 1 (n - 1)) → length finishes ≡ n - 1
+finishes_count work n finishes are = ap length are ∙ length-map-range_with_len (earliest_finish work) 1 (n - 1)

@@ -1,5 +1,5 @@
 -- What holds of plans in the order of issue.
-use Rattle.std.specs.Prelude.{◌≡◌, ℕ, ◌<◌, ◌≤◌, ◌↔◌, ◌⊎◌, List, length, All}
+use Rattle.std.specs.Prelude.{◌≡◌, ℕ, ◌<◌, ◌≤◌, ◌↔◌, ◌⊎◌, List, [], length, All}
 use Rattle.waff_model.specs.Messages.{no_client}
 use Rattle.waff_model.specs.declared.message.Message.{Message}
 use Rattle.waff_model.specs.Tree.{Node}
@@ -27,10 +27,10 @@ pub record IsLawful (before : Relation) (work : Work) : Type 0 where
   pub one_least : LeastIsOne before work
   pub one_printed : PrintedIsOne before work
 
--- messages of no client, which no client thinks about
+-- messages of no client, which no client thinks about, and which have no lists
 abbrev pub AreOfNoClient : List Message → Type 0
 AreOfNoClient messages =
-    All (λ message. (message.client ≡ no_client) × (message.think ≡ 0)) messages
+    All (λ message. (message.client ≡ no_client) × ((message.think ≡ 0) × (message.after ≡ []))) messages
 
 -- the order of issue is total: no message is issued before itself; what is issued before another is
 -- issued before all that this one is issued before; and of two messages one is issued before the other

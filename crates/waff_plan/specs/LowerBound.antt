@@ -1,5 +1,5 @@
 -- A lower bound on the length of plans that obey in whatever order: none is shorter than a worker's
--- share of the work, than what one client needs, or than what runs on one path of affinities.
+-- share of the work, than what messages that await one another need, or than what runs on one path of affinities.
 use Rattle.std.specs.Prelude.{◌≡◌, ℕ, zero, suc, ◌+◌, ◌≤◌, ◌==◌, max, List, length, map, sum_by, Option}
 use Rattle.std.specs.Prelude.{Some, None, IfSome, if◌then◌else◌}
 use Rattle.std.specs.List.{range_with_len}
@@ -30,8 +30,8 @@ finish_by work (suc n) m =
 
 -- the finish of message m where it waits for what it awaits alone: that comes earlier, so fewer than m
 -- messages do one after another
-abbrev pub client_finish : Work → ℕ → ℕ
-client_finish work m = finish_by work m m
+abbrev pub earliest_finish : Work → ℕ → ℕ
+earliest_finish work m = finish_by work m m
 
 -- the cost of message m, if it runs in affinity a
 abbrev pub cost_in : List ℕ → Work → ℕ → ℕ → ℕ
@@ -65,7 +65,7 @@ share_in (Some k) total = share_of total k
 abbrev pub lower_bound_of : Option ℕ → List Node → List ℕ → Work → ℕ
 lower_bound_of workers tree assigned work =
     max (share_in workers (total_of work))
-    (max (greatest (map (client_finish work) (numbers work)))
+    (max (greatest (map (earliest_finish work) (numbers work)))
     (greatest (map (path_cost tree assigned work) (range_with_len 0 (length tree)))))
 
 -- no plan that obeys in whatever order is shorter

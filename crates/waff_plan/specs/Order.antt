@@ -1,10 +1,10 @@
 -- The order in which messages are served: by a key, of equal keys by number. Before the third version
--- all have the same key, so that what comes first in the trace is served first; in the third the key is
--- the tick of the issue.
+-- all have the same key, so that what comes first in the trace is served first; from the third on the key
+-- is the tick of the issue.
 use Rattle.std.specs.Prelude.{◌≡◌, ℕ, ◌<◌, ◌≤◌, ◌⊎◌, List}
 use Rattle.waff_model.specs.Tree.{Node, Excludes}
 use Rattle.waff_model.specs.declared.message.Version.{Version}
-use Rattle.waff_model.specs.declared.message.Version.TheVariants.{V1, V2, V3}
+use Rattle.waff_model.specs.declared.message.Version.TheVariants.{V1, V2, V3, V4}
 use Rattle.waff_assign.specs.Order.{Relation, affinity_of}
 use Rattle.waff_plan.specs.Work.{Work, IsAmongFirst, IsAwaited, issue_of}
 
@@ -29,6 +29,7 @@ abbrev pub key_of : Version → Work → Key
 key_of V1 work start m = 0
 key_of V2 work start m = 0
 key_of V3 work start m = issue_of work start m
+key_of V4 work start m = issue_of work start m
 
 -- what a plan serves first by a key
 abbrev pub Serves : List Node → List ℕ → Work → (ℕ → ℕ) → Relation

@@ -1,9 +1,9 @@
 -- What is before what in a plan, by the version of its trace: before the third, what comes first in
--- the trace; in the third, what is issued or starts first in the plan itself.
+-- the trace; from the third on, what is issued or starts first in the plan itself.
 use Rattle.std.specs.Prelude.{ℕ, ◌<◌, List, length}
 use Rattle.waff_model.specs.Tree.{Node}
 use Rattle.waff_model.specs.declared.message.Version.{Version}
-use Rattle.waff_model.specs.declared.message.Version.TheVariants.{V1, V2, V3}
+use Rattle.waff_model.specs.declared.message.Version.TheVariants.{V1, V2, V3, V4}
 use Rattle.waff_assign.specs.Order.{Relation, IsOrdered}
 use Rattle.waff_plan.specs.Issues.{IsServedBefore}
 use Rattle.waff_plan.specs.Order.{Precedes}
@@ -20,12 +20,14 @@ abbrev pub served_before : Version → List Node → List ℕ → Work → (ℕ 
 served_before V1 tree assigned work start = IsOrdered tree assigned
 served_before V2 tree assigned work start = IsOrdered tree assigned
 served_before V3 tree assigned work start = IsServedBefore tree assigned work start
+served_before V4 tree assigned work start = IsServedBefore tree assigned work start
 
 -- the order of a plan's chains: what holds back what, but for what follows what
 abbrev pub started_before : Version → List Node → List ℕ → (ℕ → ℕ) → Relation
 started_before V1 tree assigned start = IsOrdered tree assigned
 started_before V2 tree assigned start = IsOrdered tree assigned
 started_before V3 tree assigned start = IsStartedBefore tree assigned start
+started_before V4 tree assigned start = IsStartedBefore tree assigned start
 
 -- both of a plan
 abbrev pub served_in : List Node → List ℕ → Timetable → Relation
@@ -40,3 +42,4 @@ abbrev pub chain_key : Version → (ℕ → ℕ) → ℕ → ℕ
 chain_key V1 start m = m
 chain_key V2 start m = m
 chain_key V3 start m = start m
+chain_key V4 start m = start m

@@ -9,9 +9,9 @@ use Rattle.waff_model.specs.declared.message.Version.{Version}
 use Rattle.waff_model.specs.Versions.{has_clients}
 use Rattle.waff_model.specs.declared.limits.TheConstants.{MAX_TICK}
 use Rattle.waff_plan.specs.Clients.{one_before}
-use Rattle.waff_plan.specs.Obeys.{AwaitedOnce, AwaitsEarlier, AwaitsNone}
+use Rattle.waff_plan.specs.Obeys.{AwaitsEarlier, AwaitsNone}
 use Rattle.waff_plan.specs.Work.{Work}
-use Rattle.waff_plan.specs.Timing.{IsTiming, start_of, timing_of, work_of}
+use Rattle.waff_plan.specs.Timing.{IsTiming, client_work_of, start_of, timing_of, work_of}
 use Rattle.waff_plan.specs.declared.timing.Timing.{Timing}
 
 -- the version of the plan's trace, and the timings and starts of its messages
@@ -24,16 +24,19 @@ pub record Timetable : Type 0 where
 abbrev pub work_in : Timetable → Work
 work_in plan = work_of plan.timings
 
+-- the same by clients alone
+abbrev pub client_work_in : Timetable → Work
+client_work_in plan = client_work_of plan.timings
+
 -- the starts of a plan's messages
 abbrev pub starts_in : Timetable → ℕ → ℕ
 starts_in plan = start_of plan.starts
 
--- timings within the limits of a trace of this version: a message awaits an earlier one that no other
--- awaits, and without clients none
+-- timings within the limits of a trace of this version: a message awaits earlier ones, and without clients
+-- none
 pub record AreTimings (version : Version) (timings : List Timing) : Type 0 where
   pub small : All IsTiming timings
   pub earlier : AwaitsEarlier (work_of timings)
-  pub once : AwaitedOnce (work_of timings)
   pub alone : has_clients version ≡ false → AwaitsNone (work_of timings)
 
 -- each message has a start, and no start is too late to be printed
@@ -58,6 +61,7 @@ with_cost timing cost = record {
   floor = timing.floor;
   follows = timing.follows;
   think = timing.think;
+  after = timing.after;
 }
 
 -- the plan in which message n starts at this tick and runs for this long, and the others do as they did
@@ -70,7 +74,7 @@ with_turn plan n start cost = record {
 
 -- no message
 abbrev pub no_message : Message
-no_message = record { name = []; cost = 0; release = 0; client = no_client; think = 0; ops = [] }
+no_message = record { name = []; cost = 0; release = 0; client = no_client; think = 0; after = []; ops = [] }
 
 -- message n, from 1
 abbrev pub message_of : List Message → ℕ → Message
@@ -93,6 +97,7 @@ timing_after message follows = record {
   floor = floor_of message follows;
   follows = follows;
   think = message.think;
+  after = message.after;
 }
 
 -- the timing of message n, which follows the one before it of its client
@@ -106,3 +111,7 @@ timings_of messages = map (timing_at messages) (range_with_len 1 (length message
 -- the work of the messages of a trace
 abbrev pub work_of_messages : List Message → Work
 work_of_messages messages = work_of (timings_of messages)
+
+-- the same by clients alone
+abbrev pub client_work_of_messages : List Message → Work
+client_work_of_messages messages = client_work_of (timings_of messages)

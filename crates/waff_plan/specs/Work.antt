@@ -6,11 +6,7 @@ use Rattle.std.specs.Prelude.{◌≡◌, ℕ, ◌+◌, ◌==◌, ◌⊎◌, max,
 use Rattle.std.specs.Prelude.{if◌then◌else◌}
 use Rattle.std.specs.List.{range_with_len}
 pub use Rattle.waff_model.specs.Numbers.{IsAmongFirst}
-
--- a message that another awaits, and how many ticks after its finish the other is issued at the soonest
-pub record Await : Type 0 where
-  pub message : ℕ
-  pub gap : ℕ
+pub use Rattle.waff_model.specs.declared.awaits.Await.{Await}
 
 -- message i is one of those that are awaited
 abbrev pub IsAwaited : List Await → ℕ → Type 0

@@ -2,21 +2,33 @@
 //! law is a function that does nothing and whose contract is the law, for a tree of affinities and the
 //! affinities assigned to the messages.
 
-ghost use Rattle.std.specs.Prelude.{◌≡◌, ℕ, ◌↔◌, List, length};
+ghost use Rattle.std.specs.Prelude.{◌≡◌, ℕ, ◌↔◌, ◌⊎◌, List, [], length, All};
 ghost use Rattle.waff_model.specs.declared.message.Message.{Message};
 ghost use Rattle.waff_model.specs.Tree.{Node};
-ghost use Rattle.waff_plan.specs.Work.{IsAmongFirst, Work};
-ghost use Rattle.waff_plan.specs.Timetable.{clients_of, message_of, work_of_messages};
-ghost use Rattle.waff_plan.specs.Clients.{AwaitsClients};
+ghost use Rattle.waff_plan.specs.Work.{IsAmongFirst, IsAwaited, Work};
+ghost use Rattle.waff_plan.specs.Timetable.{client_work_of_messages, clients_of, message_of, work_of_messages};
+ghost use Rattle.waff_plan.specs.Clients.{AwaitsClients, IsTheOneBefore};
 ghost use Rattle.waff_plan.specs.Obeys.{AwaitsEarlier, AwaitsNone, AwaitedOnce, IsForward};
 ghost use Rattle.waff_plan.specs.Issues.{IsServedBefore};
 ghost use Rattle.waff_plan.specs.IssueLaws.{AreOfNoClient, IssueIsTotal, IssueRises, StartsIssued, IsLawful};
 ghost use Rattle.waff_plan.specs.IssueLaws.{LeastStartsAtOnce, LeastByIssueIsOne, IssueIsArrival};
 
-/// In a trace each message awaits the one before it of its client.
+/// By clients each message of a trace awaits the one before it of its client.
 pub fn traces_follow_clients()
     ensures { (messages : List Message)
-        → AwaitsClients (clients_of messages) (work_of_messages messages) }
+        → AwaitsClients (clients_of messages) (client_work_of_messages messages) }
+{}
+
+/// In all each message of a trace awaits the one before it of its client, and those of its list.
+pub fn traces_await()
+    ensures { (messages : List Message) (i m : ℕ) → IsAwaited ((work_of_messages messages).awaits m) i
+        ↔ (IsTheOneBefore (clients_of messages) i m ⊎ IsAwaited (message_of messages m).after i) }
+{}
+
+/// Where all lists are empty there is nothing but clients to await.
+pub fn no_lists_add_nothing()
+    ensures { (messages : List Message) → All (λ message. message.after ≡ []) messages
+        → (m : ℕ) → (work_of_messages messages).awaits m ≡ (client_work_of_messages messages).awaits m }
 {}
 
 /// Messages of no client await none, and have their own releases.

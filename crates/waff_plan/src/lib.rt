@@ -29,7 +29,7 @@
 //!   plans in the order in which clients issue messages; `start_laws`: in the order of their starts.
 //!
 //! The unlimited plan obeys, and in every plan that obeys its order each message starts at the same
-//! tick or later. The order is that of the trace, and in version 3 that in which the plan issues
+//! tick or later. The order is that of the trace, and from version 3 on that in which the plan issues
 //! messages. The chain is the printed chain of the plan given, with its cost and release; of a
 //! trace with clients the release counts the think times within the chain too. Of the unlimited
 //! plan the chain's release plus its cost is the length, and of every chain that is at most the
@@ -73,6 +73,6 @@ pub use planned::Planned;
 pub use sequence::{Started, by_tick};
 pub use table::Table;
 pub use timetable::Plan;
-pub use timing::{Timing, timings};
+pub use timing::{Awaited, Timing, issue, timings};
 pub use totals::Totals;
 pub use workers::Workers;

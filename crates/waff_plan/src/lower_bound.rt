@@ -1,23 +1,25 @@
 //! A lower bound on the length of plans that obey in whatever order.
 
-ghost use Rattle.std.specs.Prelude.{◌≡◌, ◌+◌, ◌^◌, ◌<◌, ◌≤◌, ℕ, List, Option, IfOk, IfSome, length, map};
+ghost use Rattle.std.specs.Prelude.{◌≡◌, ◌+◌, ◌-◌, ◌^◌, ◌<◌, ◌≤◌, ℕ, List, Option, All, IfOk, IfSome, length, map, max};
 ghost use Rattle.std.specs.Prelude.{slice_index_or};
 ghost use Rattle.std.specs.List.{range_with_len};
 ghost use Rattle.waff_model.specs.Tree.{Node};
+ghost use Rattle.waff_model.specs.declared.limits.TheConstants.{MAX_THINK};
 ghost use Rattle.waff_plan.specs.Bound.{IsWorkers};
 ghost use Rattle.waff_plan.specs.Planned.{planned_work};
 ghost use Rattle.waff_plan.specs.Timetable.{work_in};
-ghost use Rattle.waff_plan.specs.Work.{IsNumber, Work, greatest, numbers, total_of};
-ghost use Rattle.waff_plan.specs.LowerBound.{client_finish, lower_bound_of, own_cost, path_cost};
+ghost use Rattle.waff_plan.specs.Timing.{work_by};
+ghost use Rattle.waff_plan.specs.Work.{IsAmongFirst, IsAwaited, IsNumber, Work, greatest, issue_after, numbers, total_of};
+ghost use Rattle.waff_plan.specs.LowerBound.{earliest_finish, lower_bound_of, own_cost, path_cost};
 ghost use Rattle.waff_plan.specs.LowerBound.{NoneIsBelow, share_in};
 ghost use Rattle.waff_plan.specs.Peak.{IsPeak};
 ghost use Rattle.waff_plan.specs.TreeStarts.{TreeIsReached};
 
 use crate::peak::Peak;
-use crate::{Plan, Planned};
+use crate::{Awaited, Plan, Planned};
 use std::alloc::{AllocError, Global};
 use waff_assign::Case;
-use waff_model::AffinityId;
+use waff_model::{AffinityId, Await};
 
 /// No plan that obeys is shorter than the lower bound, in whatever order it serves.
 pub fn none_is_below()
@@ -32,7 +34,7 @@ pub fn tree_is_reached()
 {}
 
 /// The lower bound for the messages of a plan, for these workers or none: the greatest of a worker's
-/// share of all costs, of what a client needs for its messages, and of the costs on a path of
+/// share of all costs, of what messages that await one another need, and of the costs on a path of
 /// affinities. The starts of the plan count for nothing.
 pub fn lower_bound(
     alloc: Global,
@@ -44,9 +46,9 @@ pub fn lower_bound(
         planned.now.case.assigned.now (planned_work planned.now)) }
 {
     let share = share(planned.plan.total(), workers);
-    let clients = longest_client(alloc, planned.plan)?;
+    let awaiting = longest_awaiting(alloc, planned.plan, Awaited::Every)?;
     let paths = longest_path(alloc, planned)?;
-    Ok(share.max(clients.ticks.max(paths.ticks)))
+    Ok(share.max(awaiting.ticks.max(paths.ticks)))
 }
 
 // The share of one of the workers, rounded up; 0 where there are none.
@@ -64,38 +66,59 @@ fn share(total: u64, workers: Option<u32>) -> u64
     }
 }
 
-/// The greatest finish of a message where each waits for its client alone, and the message.
-pub fn longest_client(alloc: Global, plan: &Plan) -> Result<Peak, AllocError>
-    ensures { IfOk result (IsPeak (client_finish (work_in plan.now)) 1
-        (work_in plan.now).count) }
+/// The greatest finish of a message where each waits for nothing but what it awaits, by its client alone or by
+/// its list too, and the message.
+pub fn longest_awaiting(alloc: Global, plan: &Plan, awaited: Awaited) -> Result<Peak, AllocError>
+    ensures { IfOk result (IsPeak (earliest_finish (work_by awaited plan.now.timings)) 1
+        (length plan.now.timings)) }
 {
     let mut finishes = Vec::with_capacity(alloc, plan.len() as usize)?;
     let mut longest = Peak::none();
     for n in 1..plan.len() + 1 {
-        let finish = finish_alone(plan, &finishes, n);
+        let finish = earliest(plan, awaited, &finishes, n);
         finishes.push(finish)?;
         longest = longest.or(n, finish);
     }
     Ok(longest)
 }
 
-// The finish of message `n` where it waits for its client alone, by those of the messages before it.
-fn finish_alone(plan: &Plan, finishes: &[u64], n: u32) -> u64
+// The finish of message `n` where it waits for nothing but what it awaits, by those of the messages before it.
+fn earliest(plan: &Plan, awaited: Awaited, finishes: &[u64], n: u32) -> u64
     requires number { IsNumber (work_in plan.now) n }
-    requires finishes { finishes.now
-        ≡ map (client_finish (work_in plan.now)) (range_with_len 1 (length finishes.now)) }
+    requires finishes { finishes.now ≡ map (earliest_finish (work_by awaited plan.now.timings))
+        (range_with_len 1 (length finishes.now)) }
     requires before { length finishes.now + 1 ≡ n }
-    ensures { result ≡ client_finish (work_in plan.now) n }
+    ensures { result ≡ earliest_finish (work_by awaited plan.now.timings) n }
 {
     let _messages = plan.len();
+    let listed = match awaited {
+        Awaited::Client => plan.release(n),
+        Awaited::Every => issue_behind(finishes, plan.release(n), plan.after(n)),
+    };
     let before = plan.follows(n);
     let issue = if before == 0 {
-        plan.release(n)
+        listed
     } else {
-        plan.release(n)
-            .max(finishes[before as usize - 1] + plan.think(n))
+        listed.max(finishes[before as usize - 1] + plan.think(n))
     };
     issue + plan.cost(n)
+}
+
+// The issue of a message of this floor that awaits these, where messages finish at these ticks.
+fn issue_behind(finishes: &[u64], floor: u64, after: &[Await]) -> u64
+    requires known { (i : ℕ) → IsAwaited after.now i → IsAmongFirst (length finishes.now) i }
+    requires early { All (λ finish. finish ≤ 2 ^ 46) finishes.now }
+    requires gaps { All (λ a. a.gap ≤ MAX_THINK) after.now }
+    ensures issue { result
+        ≡ issue_after (λ i. slice_index_or finishes.now (i - 1) 0) floor after.now }
+    ensures early { result ≤ max floor (2 ^ 47) }
+{
+    let mut issue = floor;
+    for k in (0..after.len()).rev() {
+        let Await { message, gap } = after[k];
+        issue = issue.max(finishes[message as usize - 1] + u64::from(gap));
+    }
+    issue
 }
 
 /// The greatest sum of the costs of the messages in an affinity and above it, and the affinity.

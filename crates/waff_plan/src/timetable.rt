@@ -7,11 +7,11 @@ ghost use Rattle.waff_plan.specs.Timing.{timing_of};
 ghost use Rattle.waff_plan.specs.Timetable.{with_start, with_turn, work_in, starts_in};
 
 use crate::Timing;
-use crate::timing::timings;
+use crate::timing::{issue, timings};
 use std::alloc::{AllocError, Global};
 use std::marker::Model;
 use waff_model::limits::MAX_TICK;
-use waff_model::{Trace, Version};
+use waff_model::{Await, Trace, Version};
 
 /// A plan: the start of each message of a trace. Messages are numbered from 1; all times are ticks.
 pub struct Plan {
@@ -193,16 +193,23 @@ impl Plan {
         u64::from(self.timings[n as usize - 1].think)
     }
 
+    /// The earlier messages that message `n` awaits besides.
+    pub fn after(&self, n: u32) -> &[Await]
+        requires number { IsAmongFirst (length self.now.timings) n }
+        ensures after { result.now ≡ (timing_of self.now.timings n).after }
+        ensures small { All (λ a. a.gap ≤ MAX_THINK) result.now }
+        ensures earlier { All (λ a. (1 ≤ a.message) × (a.message < n)) result.now }
+    {
+        self.timings[n as usize - 1].after.as_slice()
+    }
+
     /// The tick at which message `n` is issued under the plan itself.
     pub fn issue(&self, n: u32) -> u64
         requires number { IsAmongFirst (length self.now.timings) n }
         ensures issue { result ≡ issue_of (work_in self.now) (starts_in self.now) n }
         ensures small { result < MAX_TICK + 2 ^ 33 }
     {
-        match self.follows(n) {
-            0 => self.release(n),
-            before => (self.finish(before) + self.think(n)).max(self.release(n)),
-        }
+        issue(&self.timings, &self.starts, n)
     }
 
     /// The running time of message `n`.

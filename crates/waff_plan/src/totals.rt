@@ -106,9 +106,16 @@ pub(crate) fn gap_between(plan: &Plan, i: u32, m: u32) -> u64
     ensures gap { result ≡ gap_of (work_in plan.now) i m }
     ensures small { result ≤ MAX_THINK }
 {
+    let after = plan.after(m);
+    let mut gap = 0;
+    for k in (0..after.len()).rev() {
+        if after[k].message == i {
+            gap = u64::from(after[k].gap).max(gap);
+        }
+    }
     if plan.follows(m) == i {
-        plan.think(m)
+        plan.think(m).max(gap)
     } else {
-        0
+        gap
     }
 }

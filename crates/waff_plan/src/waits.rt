@@ -1,7 +1,8 @@
 //! For each message of a plan the one that it waited for, since its release or since its issue.
 
-ghost use Rattle.std.specs.Prelude.{◌≡◌, ◌<◌, true, length, All, IfOk};
+ghost use Rattle.std.specs.Prelude.{◌≡◌, ◌+◌, ◌<◌, ◌≤◌, true, length, All, IfOk};
 ghost use Rattle.waff_model.specs.Versions.{has_clients};
+ghost use Rattle.waff_model.specs.declared.limits.TheConstants.{MAX_THINK};
 ghost use Rattle.waff_plan.specs.Latest.{later_of};
 ghost use Rattle.waff_plan.specs.Links.{held_by, link_of};
 ghost use Rattle.waff_plan.specs.ServesAs.{ObeysApart};
@@ -16,14 +17,14 @@ use crate::sequence::{in_order, number_at};
 use crate::table::Table;
 use std::alloc::{AllocError, Global};
 use waff_assign::Assigned;
-use waff_model::Tree;
+use waff_model::{Await, Tree};
 
 /// From when on a message waits.
 #[derive(Clone, Copy)]
 pub(crate) enum Since {
-    /// From its release on, for the message that it follows too.
+    /// From its release on, for the messages that it awaits too.
     Release,
-    /// From its issue on: what its client does counts in the issue alone.
+    /// From its issue on: what it awaits counts in the issue alone.
     Issue,
 }
 
@@ -70,23 +71,36 @@ pub(crate) fn wait(plan: &Plan, m: u32, latest: Option<Latest>, since: Since) ->
     }
 }
 
-/// What holds message `m` back longest: the latest of those before it that exclude it, or the one that it
-/// follows.
+/// What holds message `m` back longest: the latest of those before it that exclude it, or one that it awaits.
 fn held_by(plan: &Plan, m: u32, latest: Option<Latest>) -> Option<Latest>
     requires number { IsNumber (work_in plan.now) m }
     ensures { result ≡ held_by (finish_of (work_in plan.now) (starts_in plan.now)) latest
         ((work_in plan.now).awaits m) }
 {
+    let after = plan.after(m);
+    let mut held = latest;
+    for k in (0..after.len()).rev() {
+        let Await { message, gap } = after[k];
+        held = later(held, Some(awaited(plan, message, u64::from(gap))));
+    }
     match plan.follows(m) {
-        0 => latest,
-        before => {
-            let finish = plan.finish(before) + plan.think(m);
-            let followed = Latest {
-                finish,
-                number: before,
-            };
-            later(latest, Some(followed))
-        }
+        0 => held,
+        before => later(held, Some(awaited(plan, before, plan.think(m)))),
+    }
+}
+
+/// Message `i`, which is awaited, with the tick at which the gap behind its finish ends.
+fn awaited(plan: &Plan, i: u32, gap: u64) -> Latest
+    requires number { IsNumber (work_in plan.now) i }
+    requires small { gap ≤ MAX_THINK }
+    ensures { result ≡ record {
+      finish = finish_of (work_in plan.now) (starts_in plan.now) i + gap;
+      number = i;
+    } }
+{
+    Latest {
+        finish: plan.finish(i) + gap,
+        number: i,
     }
 }
 
