@@ -80,6 +80,8 @@ trace_fault trace.Memory = codes "Memory"
 trace_fault (trace.Release at) = codes "Release" ++ and_number at
 trace_fault (trace.Client at) = codes "Client" ++ and_number at
 trace_fault (trace.Think at) = codes "Think" ++ and_number at
+trace_fault (trace.After at) = codes "After" ++ and_number at
+trace_fault (trace.TooManyAfter at) = codes "TooManyAfter" ++ and_number at
 
 -- what is said of the text of a plan
 abbrev pub plan_text_fault : PlanTextError → List ℕ

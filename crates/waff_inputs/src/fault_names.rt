@@ -112,6 +112,8 @@ pub(crate) fn told_trace(fault: TraceError) -> Told
         TraceError::Release { at } => numbered("Release", at),
         TraceError::Client { at } => numbered("Client", at),
         TraceError::Think { at } => numbered("Think", at),
+        TraceError::After { at } => numbered("After", at),
+        TraceError::TooManyAfter { at } => numbered("TooManyAfter", at),
     }
 }
 

@@ -14,7 +14,7 @@ use waff_read::TraceError;
 pub fn newest() -> Version
     ensures { result ≡ known.newest }
 {
-    Version::V3
+    Version::V4
 }
 
 /// The trace that the bytes spell, of a version that the commands know.
