@@ -4,8 +4,10 @@ use Rattle.waff_model.specs.Numbers.{IsAmongFirst}
 use Rattle.waff_assign.specs.Order.{Relation}
 use Rattle.waff_plan.specs.Obeys.{AwaitsEarlier, IsEarlier}
 use Rattle.waff_plan.specs.Timing.{IsTiming, no_timing, timing_of, work_of}
+use Rattle.waff_plan.specs.declared.timing.Awaited.TheVariants.{Every}
 use Rattle.waff_plan.specs.declared.timing.Timing.{Timing}
 use Rattle.waff_plan.specs.Work.{Work, IsAwaited, gap_of}
+use Rattle.waff_plan.proofs.FollowLemmas.{gap_limit}
 use Rattle.waff_order.specs.Needs.{IsNeed, needs_of}
 use Rattle.waff_list.specs.Planning.{Fits}
 use Rattle.waff_list.specs.Tails.{AreRaised, tail_of}
@@ -15,7 +17,7 @@ use Rattle.waff_list.specs.declared.issued.Issued.{Issued}
 use Rattle.waff_list.specs.declared.service.Service.{Service}
 use Rattle.waff_list.specs.declared.service.Service.TheVariants.{ByIssue, ByNumber}
 use Rattle.waff_list.proofs.TailMaking.{AreTailsAfter, raised_same, tails_more, tails_none, tails_of_clients, tails_over, takes_turn}
-use Rattle.waff_list.proofs.TraceWork.{gap_small, needs_earlier}
+use Rattle.waff_list.proofs.TraceWork.{needs_earlier}
 
 -- message i is held back for the tail of message m
 abbrev pub holds_by : Basis → Work → Relation
@@ -67,4 +69,4 @@ module _ (service : Service) (timings : List Timing) (small : All IsTiming timin
     where
       gap_short : (basis : Basis) (n : ℕ) → IsTiming (timing_of timings n) → (i : ℕ) → gap_by basis work i n < 2 ^ 32
       gap_short (of_needs needs) n timing i = omega arith
-      gap_short (of_tree tree spans assigned) n timing i = omega (arith, gap_small (timing_of timings n) timing i)
+      gap_short (of_tree tree spans assigned) n timing i = omega (arith, gap_limit Every (timing_of timings n) i timing)

@@ -1,17 +1,12 @@
 -- The work of the messages of a trace, and the order of their needs.
-use Rattle.std.proofs.Common.{◌≡◌, ℕ, ◌-◌, ◌≤◌, inl, inr, List, [], ◌∷◌, length, All, arith}
-use Rattle.std.proofs.lemmas.Bool.{cases_eq}
-use Rattle.std.proofs.lemmas.List.Elements.{All-head, All-tail}
+use Rattle.std.proofs.Common.{◌≡◌, ℕ, ◌-◌, List, length, All, arith}
 use Rattle.waff_model.specs.declared.message.Message.{Message}
 use Rattle.waff_model.specs.Messages.{Arrivals, IsTrace}
-use Rattle.waff_model.specs.declared.limits.TheConstants.{MAX_THINK}
-use Rattle.waff_plan.specs.Work.{Await, Work, gap_after}
+use Rattle.waff_plan.specs.Work.{Work}
 use Rattle.waff_plan.specs.Obeys.{IsEarlier}
-use Rattle.waff_plan.proofs.AwaitLemmas.{gap_after-append}
-use Rattle.waff_plan.proofs.FollowLemmas.{gap_within}
-use Rattle.waff_plan.proofs.Holding.{gap_other, gap_same}
+use Rattle.waff_plan.proofs.FollowLemmas.{gap_limit}
 use Rattle.waff_plan.proofs.TimingLemmas.{are_timings, length-timings_of}
-use Rattle.waff_plan.specs.Timing.{IsTiming, await_of, awaits_by, no_timing, timing_of, work_of}
+use Rattle.waff_plan.specs.Timing.{IsTiming, no_timing, timing_of, work_of}
 use Rattle.waff_plan.specs.Timetable.{timings_of}
 use Rattle.waff_plan.specs.declared.timing.Awaited.TheVariants.{Every}
 use Rattle.waff_plan.specs.declared.timing.Timing.{Timing}
@@ -22,35 +17,13 @@ use Rattle.waff_list.specs.Progress.{work_of_messages, IsSmall}
 pub count_is : (messages : List Message) → (work_of_messages messages).count ≡ length messages
 count_is = length-timings_of
 
--- no gap is greater than the greatest of a list
-gaps_within : (i most : ℕ) (awaits : List Await) → All (λ a. a.gap ≤ most) awaits → gap_after i awaits ≤ most
-gaps_within i most [] all = omega arith
-gaps_within i most (a ∷ rest) all =
-    let more = gaps_within i most rest (All-tail (λ (b : Await). b.gap ≤ most) a rest all) in
-    let first = All-head (λ (b : Await). b.gap ≤ most) a rest all in
-    elim (cases_eq a.message i) [
-      | inl same ↦ omega (arith, more, first, gap_same a i same)
-      | inr other ↦ omega (arith, more, gap_other a i other)
-    ]
-
--- nor than a think time may be
-pub gap_small : (timing : Timing) → IsTiming timing → (i : ℕ) → gap_after i (awaits_by Every timing) ≤ MAX_THINK
-gap_small timing is i =
-    omega (
-      arith,
-      gap_after-append i (await_of timing.follows timing.think) timing.after,
-      gap_within timing.follows timing.think i,
-      is.think,
-      gaps_within i MAX_THINK timing.after is.gaps,
-    )
-
 -- small timings are those of small work
 pub small_timings : (timings : List Timing) → All IsTiming timings → IsSmall (work_of timings)
 small_timings timings small = record {
   some_cost = λ m number. let t = small (m - 1) no_timing (omega (arith, number.from, number.to)) in t.some_cost;
   cost = λ m number. let t = small (m - 1) no_timing (omega (arith, number.from, number.to)) in t.cost;
   floor = λ m number. let t = small (m - 1) no_timing (omega (arith, number.from, number.to)) in t.floor;
-  gap = λ i m number. gap_small (timing_of timings m) (small (m - 1) no_timing (omega (arith, number.from, number.to))) i;
+  gap = λ i m number. gap_limit Every (timing_of timings m) i (small (m - 1) no_timing (omega (arith, number.from, number.to)));
 }
 
 -- the messages of a trace are small
