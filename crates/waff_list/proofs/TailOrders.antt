@@ -13,7 +13,6 @@ use Rattle.waff_list.specs.Planning.{Fits}
 use Rattle.waff_list.specs.Tails.{AreRaised, tail_of}
 use Rattle.waff_list.specs.Services.{AreTailsBy}
 use Rattle.waff_list.specs.Telling.{Basis, basis_of, of_needs, of_tree}
-use Rattle.waff_list.specs.declared.issued.Issued.{Issued}
 use Rattle.waff_list.specs.declared.service.Service.{Service}
 use Rattle.waff_list.specs.declared.service.Service.TheVariants.{ByIssue, ByNumber}
 use Rattle.waff_list.proofs.TailMaking.{AreTailsAfter, raised_same, tails_more, tails_none, tails_of_clients, tails_over, takes_turn}
