@@ -80,12 +80,15 @@ pub record StartsEarly (work : Work) (start : ℕ → ℕ) (n : ℕ) : Type 0 wh
   pub number : IsNumber work n
   pub early : start n < work.floor n
 
--- a message that starts before it is issued: while one that it awaits holds it back
-pub record StartsUnissued (work : Work) (start : ℕ → ℕ) (n : ℕ) : Type 0 where
+-- a message that starts while this one, which it awaits, holds it back
+pub record StartsHeld (work : Work) (start : ℕ → ℕ) (n awaited : ℕ) : Type 0 where
   pub number : IsNumber work n
-  pub awaited : ℕ
   pub awaits : IsAwaited (work.awaits n) awaited
   pub early : start n < holds_until work start n awaited
+
+-- a message that starts before it is issued: while one that it awaits holds it back
+abbrev pub StartsUnissued : Work → (ℕ → ℕ) → ℕ → Type 0
+StartsUnissued work start n = (awaited : ℕ) × StartsHeld work start n awaited
 
 -- the totals of a summary are those of the trace, the starts and the chain; where all releases are
 -- 0, as in a trace of the first version, the release is 0

@@ -13,7 +13,7 @@ use crate::claim::Claim;
 use crate::crowd::crowded;
 use crate::links::broken_link;
 use crate::overlap::first_overlap;
-use crate::told::{early_start, unissued_start, wrong_finish, wrong_name};
+use crate::told::{early_start, unawaited_start, unissued_start, wrong_finish, wrong_name};
 use crate::totals::has_totals;
 use crate::verdict::Verdict;
 use crate::worker::wrong_worker;
@@ -121,6 +121,9 @@ fn judge_summed(alloc: Global, claim: &Claim<'_>) -> Result<Verdict, AllocError>
     }
     if let Some(message) = unissued_start(claim.planned.plan) {
         return Ok(Verdict::Client { message });
+    }
+    if let Some((message, awaited)) = unawaited_start(&claim.planned) {
+        return Ok(Verdict::After { message, awaited });
     }
     praise(alloc, claim)
 }
