@@ -158,9 +158,9 @@ point_finds xs i k rising point awaited d =
       | inr past ↦ elim (cases_eq k j) [
         | inl same ↦ (omega (arith, same, within), ap (λ p. (get_or xs p d).message) same ∙ is)
         | inr other ↦ absurd (
-          let before = rising k j d (omega (arith, past, other)) within in
-          let no_less = ltb-false (get_or xs k d).message i (point.1 k d (omega arith) (omega (arith, past, within))) in
-          omega (arith, before, no_less, is))
+            let before = rising k j d (omega (arith, past, other)) within in
+            let no_less = ltb-false (get_or xs k d).message i (point.1 k d (omega arith) (omega (arith, past, within))) in
+            omega (arith, before, no_less, is))
       ]
     ]
 

@@ -25,7 +25,7 @@ use Rattle.waff_plan.specs.Work.{IsAmongFirst, IsNumber, Work, greatest, length_
 use Rattle.waff_plan.specs.declared.peak.Peak.{Peak}
 use Rattle.waff_plan.proofs.ApartLaws.{apart_where_finished}
 use Rattle.waff_plan.proofs.Chains.{least_is_shortest}
-use Rattle.waff_plan.proofs.LowerBounds.{client_is, none_is_below}
+use Rattle.waff_plan.proofs.LowerBounds.{earliest_is, none_is_below}
 use Rattle.waff_plan.proofs.ServingLemmas.{each_runs, least_started}
 use Rattle.waff_plan.proofs.StartOrder.{served_apart, serving_obeys}
 use Rattle.waff_plan.proofs.TimingLemmas.{are_timings, awaits_client, floor_alone, length-timings_of, timings_alone}
@@ -274,4 +274,4 @@ pub path_is_reached : (instance : Instance) → TreeIsReached instance.tree inst
 path_is_reached instance law layout start limits under are free = reached instance layout under free law start limits are
 
 pub clients_finish : (work : Work) → ClientsFinish work
-clients_finish work follows m number = client_is work follows m number
+clients_finish work follows m number = earliest_is work follows m number

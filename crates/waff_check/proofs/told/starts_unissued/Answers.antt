@@ -25,11 +25,14 @@ returns c =
     let is : f ≡ timing.follows = c.follows-followed.ensures.follows in
     let some : timing.follows ≢ 0 = λ none. c.if-followed-eq0.false (is ∙ none) in
     let gap : gap_of work f n ≡ timing.think = ap (λ i. gap_of work i n) is ∙ gap_after_one timing.follows timing.think some in (
-      λ t. (f, record {
-        number = c.requires.number;
-        awaits = subst (IsAwaited (work.awaits n)) (sym is) (awaits_it timing.follows timing.think some);
-        early = omega (arith, gap, ltb-true _ _ t, c.start.ensures.start, c.finish.ensures.finish, c.think.ensures.think);
-      }),
+      λ t. (
+        f,
+        record {
+          number = c.requires.number;
+          awaits = subst (IsAwaited (work.awaits n)) (sym is) (awaits_it timing.follows timing.think some);
+          early = omega (arith, gap, ltb-true _ _ t, c.start.ensures.start, c.finish.ensures.finish, c.think.ensures.think);
+        },
+      ),
       λ early.
           let same : f ≡ early.0 = is ∙ awaited_is timing.follows timing.think early.0 early.1.awaits in
           let sooner : start n < holds_until work start n f = subst (λ i. start n < holds_until work start n i) (sym same) early.1.early in
