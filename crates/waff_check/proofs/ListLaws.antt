@@ -1,9 +1,8 @@
 -- Lists of messages that are awaited: who stands in them, and whom they hold back.
-use Rattle.std.proofs.Common.{◌≡◌, ℕ, zero, suc, ◌+◌, ◌-◌, ◌<◌, ◌≤◌, ◌⊎◌, inl, inr, List, [], ◌∷◌, ◌++◌, length, get_or, ltb, true, false, arith, refl, sym, ◌∙◌, ap, subst}
+use Rattle.std.proofs.Common.{◌≡◌, ℕ, zero, suc, ◌+◌, ◌<◌, ◌≤◌, inl, inr, List, [], ◌∷◌, ◌++◌, length, get_or, ltb, true, false, arith, refl, sym, ◌∙◌, ap, subst}
 use Rattle.std.specs.List.{AllPairs}
 use Rattle.std.specs.List.Sorted.{IsNonDecreasingBy, IsPartitionPoint}
 use Rattle.std.proofs.lemmas.Bool.{cases_eq, cases_lt, ltb-false, ltb-true}
-use Rattle.waff_model.specs.Awaits.{IsList}
 use Rattle.waff_model.specs.Messages.{Arrivals, IsTrace}
 use Rattle.waff_plan.specs.Timetable.{timings_of}
 use Rattle.waff_plan.specs.Timing.{await_of, client_work_of, timing_of, work_of}
@@ -127,7 +126,7 @@ module _ (timings : List Timing) (start : ℕ → ℕ) where
       subst (λ t. t ≤ start m) (sym (issue_after-append finish timing.floor own timing.after))
       (issued_by finish (issue_after finish timing.floor timing.after) (start m) own listed
       (λ i awaited. elim (cases_lt (start m) (holds_until (client_work_of timings) start m i)) [
-        | inl early ↦ absurd (issued m (i, record { number = number; awaits = awaited; early = early }))
+        | inl early ↦ absurd (issued m (record { awaited = i; held = record { number = number; awaits = awaited; early = early } }))
         | inr after ↦ after
       ]))
 
@@ -136,9 +135,9 @@ module _ (timings : List Timing) (start : ℕ → ℕ) where
     pub none_unissued : NoneOf (StartsUnissued (client_work_of timings) start)
     none_unissued m early =
         let timing = timing_of timings m in
-        let client = awaited-le-issue (client_work_of timings) start early.0 m early.1.awaits in
+        let client = awaited-le-issue (client_work_of timings) start early.awaited m early.held.awaits in
         let all = issue_first (finish_of work start) timing.floor (await_of timing.follows timing.think) timing.after in
-        omega (arith, client, all, issued m early.1.number, early.1.early)
+        omega (arith, client, all, issued m early.held.number, early.held.early)
 
     pub none_listed : (n i : ℕ) → StartsHeld (list_work_of timings) start n i → ⊥
     none_listed n i held =

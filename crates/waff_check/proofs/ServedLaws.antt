@@ -2,7 +2,7 @@
 use Rattle.std.proofs.Common.{◌≡◌, ◌≢◌, ℕ, ◌-◌, ◌<◌, ◌≤◌, inl, inr, List, [], ◌∷◌, length, arith, refl, ◌∙◌, ap}
 use Rattle.std.proofs.lemmas.Bool.{cases_lt, cases_order}
 use Rattle.waff_model.specs.Messages.{Arrivals, IsTrace}
-use Rattle.waff_model.specs.Tree.{Node, Excludes}
+use Rattle.waff_model.specs.Tree.{Node}
 use Rattle.waff_model.specs.Versions.{has_clients}
 use Rattle.waff_model.specs.declared.message.Version.{Version}
 use Rattle.waff_model.specs.declared.message.Version.TheVariants.{V1, V2, V3, V4}

@@ -210,7 +210,11 @@ IsManned claim = IsFreeBelow claim (stage (verdict.Affinity 0))
 abbrev pub IsSummed : Claim → Type 0
 IsSummed claim = IsFreeBelow claim (stage (verdict.NotAChain 0))
 
--- and the chain is one, and each message is issued when it starts: no fault is left
+-- and the chain is one, and no message starts before its release
+abbrev pub IsReleased : Claim → Type 0
+IsReleased claim = IsFreeBelow claim (stage (verdict.Client 0))
+
+-- and each message is issued when it starts: no fault is left
 abbrev pub IsFaultless : Claim → Type 0
 IsFaultless claim = IsFreeBelow claim (stage verdict.Shortest)
 

@@ -3,8 +3,8 @@
 ghost use Rattle.std.specs.Prelude.{◌≡◌, ◌↔◌, ◌+◌, ◌^◌, ◌<◌, length, IfOk, IsTrue};
 ghost use Rattle.waff_assign.specs.Case.{instance_of};
 ghost use Rattle.waff_check.specs.Claimed.{claim_under, claimed};
-ghost use Rattle.waff_check.specs.Verdicts.{IsClaim, IsFaultless, IsManned, IsSummed, IsVerdict};
-ghost use Rattle.waff_check.specs.Verdicts.{IsShort, chain_in, claim_of, lower_bound_in, start_in};
+ghost use Rattle.waff_check.specs.Verdicts.{IsClaim, IsFaultless, IsManned, IsReleased, IsSummed};
+ghost use Rattle.waff_check.specs.Verdicts.{IsShort, IsVerdict, chain_in, claim_of, lower_bound_in, start_in};
 ghost use Rattle.waff_check.specs.Verdicts.{work_of_claim, workers_in};
 ghost use Rattle.waff_plan.specs.Totals.{totals_of};
 ghost use Rattle.waff_check.specs.Promises.{Promises};
@@ -119,6 +119,14 @@ fn judge_summed(alloc: Global, claim: &Claim<'_>) -> Result<Verdict, AllocError>
     if let Some(message) = early_start(claim.planned.plan) {
         return Ok(Verdict::Early { message });
     }
+    judge_released(alloc, claim)
+}
+
+/// The verdict on a plan whose chain is one, and whose messages do not start before their releases.
+fn judge_released(alloc: Global, claim: &Claim<'_>) -> Result<Verdict, AllocError>
+    requires { IsReleased (claimed claim.now) }
+    ensures { IfOk result (IsVerdict (claimed claim.now)) }
+{
     if let Some(message) = unissued_start(claim.planned.plan) {
         return Ok(Verdict::Client { message });
     }

@@ -46,7 +46,7 @@ pub follows_one : (messages : List Message) (start : ℕ → ℕ) (n : ℕ) → 
     → 1 ≤ (timing_of (timings_of messages) n).follows
 follows_one messages start n unissued =
     let timing = timing_of (timings_of messages) n in
-    let some : timing.follows ≢ 0 = awaited_some timing.follows timing.think unissued.0 unissued.1.awaits in
+    let some : timing.follows ≢ 0 = awaited_some timing.follows timing.think unissued.awaited unissued.held.awaits in
     omega (arith, some)
 
 -- and a message of the list of another one

@@ -1,7 +1,7 @@
 -- What a message awaits is the one that it follows, and those of its list.
-use Rattle.std.proofs.Common.{◌≡◌, ◌≢◌, ◌<◌, List, true, length, arith, inl, inr, sym, ◌∙◌, ap, subst}
+use Rattle.std.proofs.Common.{◌≢◌, ◌<◌, List, length, arith, inl, inr, sym, ◌∙◌, ap, subst}
 use Rattle.std.specs.List.{AllPairs}
-use Rattle.std.proofs.lemmas.Bool.{eq-eqb, eqb-true}
+use Rattle.std.proofs.lemmas.Bool.{eq-eqb}
 use Rattle.waff_plan.specs.Timing.{await_of, timing_of}
 use Rattle.waff_plan.specs.Work.{Await, IsAmongFirst, IsAwaited}
 use Rattle.waff_plan.specs.declared.timing.Timing.{Timing}

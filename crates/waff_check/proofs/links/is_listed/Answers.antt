@@ -1,6 +1,5 @@
 -- The message stands at the place from which on none is below it, or nowhere.
-use Rattle.std.proofs.Common.{◌≡◌, List, ltb, true, false, rules, arith, sym, ◌∙◌, ap, subst}
-use Rattle.std.specs.List.Sorted.{IsPartitionPoint}
+use Rattle.std.proofs.Common.{ltb, rules, arith, sym, ◌∙◌, ap, subst}
 use Rattle.std.proofs.lemmas.Bool.{eq-eqb, eqb-true}
 use Rattle.std.proofs.lemmas.List.Sorted.{IsPartitionPoint-from_clause, IsPartitionedBy-ltb}
 use Rattle.waff_plan.specs.Work.{Await, IsAwaited}

@@ -13,7 +13,7 @@ returns-then-followed-eq0 c =
     let work = client_work_in c.args.plan.now in
     let timing = timing_of c.args.plan.now.timings c.args.n in
     let none = awaits_none timing.follows timing.think (sym c.follows-followed.ensures.follows ∙ c.if-followed-eq0.true) in
-    (λ t. absurd (cc t), λ early. absurd (none_awaited (work.awaits c.args.n) early.0 none early.1.awaits))
+    (λ t. absurd (cc t), λ early. absurd (none_awaited (work.awaits c.args.n) early.awaited none early.held.awaits))
 
 pub returns : goal.returns
 returns c =
@@ -25,16 +25,16 @@ returns c =
     let is : f ≡ timing.follows = c.follows-followed.ensures.follows in
     let some : timing.follows ≢ 0 = λ none. c.if-followed-eq0.false (is ∙ none) in
     let gap : gap_of work f n ≡ timing.think = ap (λ i. gap_of work i n) is ∙ gap_after_one timing.follows timing.think some in (
-      λ t. (
-        f,
-        record {
+      λ t. record {
+        awaited = f;
+        held = record {
           number = c.requires.number;
           awaits = subst (IsAwaited (work.awaits n)) (sym is) (awaits_it timing.follows timing.think some);
           early = omega (arith, gap, ltb-true _ _ t, c.start.ensures.start, c.finish.ensures.finish, c.think.ensures.think);
-        },
-      ),
+        };
+      },
       λ early.
-          let same : f ≡ early.0 = is ∙ awaited_is timing.follows timing.think early.0 early.1.awaits in
-          let sooner : start n < holds_until work start n f = subst (λ i. start n < holds_until work start n i) (sym same) early.1.early in
+          let same : f ≡ early.awaited = is ∙ awaited_is timing.follows timing.think early.awaited early.held.awaits in
+          let sooner : start n < holds_until work start n f = subst (λ i. start n < holds_until work start n i) (sym same) early.held.early in
           lt-ltb _ _ (omega (arith, gap, sooner, c.start.ensures.start, c.finish.ensures.finish, c.think.ensures.think)),
     )

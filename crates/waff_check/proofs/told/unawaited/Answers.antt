@@ -1,10 +1,9 @@
 -- What stands in the list so far holds back no longer.
-use Rattle.std.proofs.Common.{◌≡◌, ℕ, ◌+◌, ◌<◌, ◌≤◌, List, length, get_or, inl, inr, arith, refl, sym, ◌∙◌, ap, subst}
+use Rattle.std.proofs.Common.{◌≡◌, ◌+◌, ◌<◌, ◌≤◌, List, length, get_or, inl, inr, arith, sym, ◌∙◌, ap, subst}
 use Rattle.std.specs.List.{AllPairs}
 use Rattle.std.proofs.lemmas.Bool.{cases_lt}
 use Rattle.std.proofs.lemmas.List.{get_or_default}
 use Rattle.waff_plan.specs.Planned.{planned_starts}
-use Rattle.waff_plan.specs.Timetable.{timings_of}
 use Rattle.waff_plan.specs.Timing.{timing_of}
 use Rattle.waff_plan.specs.Work.{Await, IsAmongFirst, finish_of}
 use Rattle.waff_plan.specs.declared.timing.Timing.{Timing}
