@@ -5,7 +5,7 @@ use Rattle.waff_model.specs.Messages.{Arrivals}
 use Rattle.waff_model.specs.Unique.{AtMostOne}
 use Rattle.waff_model.specs.Versions.{has_clients}
 use Rattle.waff_model.specs.declared.message.Version.{Version}
-use Rattle.waff_model.specs.declared.message.Version.TheVariants.{V1, V2, V3}
+use Rattle.waff_model.specs.declared.message.Version.TheVariants.{V1, V2, V3, V4}
 use Rattle.waff_model.specs.Layout.{Space}
 use Rattle.waff_inputs.specs.Known.{newest, trace_of}
 use Rattle.waff_read.proofs.LimitLaws.{layout_is_within_limits, trace_is_within_limits}
@@ -106,6 +106,7 @@ module _ (rule : Rule) (hierarchy_file trace_file workers text : List ℕ) (told
   keeps_by V1 start without obeys = obeys
   keeps_by V2 start without obeys = obeys
   keeps_by V3 start without obeys = absurd (cc)
+  keeps_by V4 start without obeys = absurd (cc)
 
   listed_below : (figures : Figures) → has_clients instance.trace.version ≡ false
       → IsListed rule instance (length_of (work_of_instance instance) (start_of told.told.starts)) figures → told.told.limits.order ≤ figures.length

@@ -2,7 +2,7 @@
 use Rattle.std.proofs.Common.{◌≡◌, ℕ, inl, inr, List, [], ◌∷◌, length, sym, ◌∙◌}
 use Rattle.waff_model.specs.Tree.{Node}
 use Rattle.waff_model.specs.declared.message.Version.{Version}
-use Rattle.waff_model.specs.declared.message.Version.TheVariants.{V1, V2, V3}
+use Rattle.waff_model.specs.declared.message.Version.TheVariants.{V1, V2, V3, V4}
 use Rattle.waff_assign.specs.Instance.{Instance}
 use Rattle.waff_assign.specs.Order.{IsOrdered, Relation}
 use Rattle.waff_plan.specs.Chain.{IsPrinted, LeadsToEnd}
@@ -62,6 +62,7 @@ forward_by : (version : Version) (tree : List Node) (assigned : List ℕ) (work 
 forward_by V1 tree assigned work count follows runs start issued = IsOrdered_forward tree assigned work count follows
 forward_by V2 tree assigned work count follows runs start issued = IsOrdered_forward tree assigned work count follows
 forward_by V3 tree assigned work count follows runs start issued = IsStartedBefore_forward tree assigned work count runs start issued follows
+forward_by V4 tree assigned work count follows runs start issued = IsStartedBefore_forward tree assigned work count runs start issued follows
 
 -- the plan by a rule
 rule_by : (version : Version) (rule : Rule) (tree : List Node) (assigned : List ℕ) (work : Work) → length assigned ≡ work.count → AwaitsEarlier work
@@ -72,6 +73,8 @@ rule_by V1 rule tree assigned work count follows runs k start other one two =
 rule_by V2 rule tree assigned work count follows runs k start other one two =
     rule_plan_is_one (IsOrdered tree assigned) work (IsOrdered_forward tree assigned work count follows) runs rule k start other one two
 rule_by V3 rule tree assigned work count follows runs k start other one two =
+    plan_by_issue_is_one tree assigned work follows runs rule k start other one two
+rule_by V4 rule tree assigned work count follows runs k start other one two =
     plan_by_issue_is_one tree assigned work follows runs rule k start other one two
 
 module _ (instance : Instance) (sound : IsSound instance) where
