@@ -4,7 +4,6 @@ use Rattle.std.specs.Prelude.{slice_get, Some}
 use Rattle.std.proofs.lemmas.Bool.{cases_eq}
 use Rattle.std.proofs.lemmas.List.{ext_get_or}
 use Rattle.std.proofs.lemmas.Option.{get_or_from_slice_get}
-use Rattle.waff_model.specs.declared.awaits.Await.{Await}
 use Rattle.waff_model.specs.declared.op.Op.{Op}
 use Rattle.waff_model.specs.declared.op.Op.TheVariants as op
 use Rattle.waff_model.specs.declared.message.Message.{Message}
@@ -15,26 +14,22 @@ use Rattle.waff_record.specs.Runs.{IsSameButCost}
 pub some_op : Op
 some_op = op.Read (record { space = 0; index = 0 })
 
--- no message that is awaited
-pub no_await : Await
-no_await = record { message = 0; gap = 0 }
-
--- the first n are the same
-abbrev pub AreSameBelow : {A : Type 0} → A → List A → List A → ℕ → Type 0
-AreSameBelow some xs ys n = (i : ℕ) → i < n → get_or xs i some ≡ get_or ys i some
+-- the first n operations are the same
+abbrev pub AreSameBelow : List Op → List Op → ℕ → Type 0
+AreSameBelow ops other n = (i : ℕ) → i < n → get_or ops i some_op ≡ get_or other i some_op
 
 -- one more
-pub same_more : {A : Type 0} (some : A) (xs ys : List A) (n : ℕ) (x y : A) → AreSameBelow some xs ys n → slice_get xs n ≡ Some x → slice_get ys n ≡ Some y
-    → x ≡ y → AreSameBelow some xs ys (n + 1)
-same_more some xs ys n x y below first second same i less = elim (cases_eq i n) [
-  | inl at ↦ subst (λ k. get_or xs k some ≡ get_or ys k some) (sym at)
-      (get_or_from_slice_get xs n x some first ∙ same ∙ sym (get_or_from_slice_get ys n y some second))
+pub same_more : (ops other : List Op) (n : ℕ) (x y : Op) → AreSameBelow ops other n → slice_get ops n ≡ Some x → slice_get other n ≡ Some y
+    → x ≡ y → AreSameBelow ops other (n + 1)
+same_more ops other n x y below first second same i less = elim (cases_eq i n) [
+  | inl at ↦ subst (λ k. get_or ops k some_op ≡ get_or other k some_op) (sym at)
+      (get_or_from_slice_get ops n x some_op first ∙ same ∙ sym (get_or_from_slice_get other n y some_op second))
   | inr off ↦ below i (omega arith)
 ]
 
 -- all are
-pub same_all : {A : Type 0} (some : A) (xs ys : List A) → length xs ≡ length ys → AreSameBelow some xs ys (length xs) → xs ≡ ys
-same_all some xs ys count below = ext_get_or some xs ys count below
+pub same_all : (ops other : List Op) → length ops ≡ length other → AreSameBelow ops other (length ops) → ops ≡ other
+same_all ops other count below = ext_get_or some_op ops other count below
 
 -- the messages before m are the same but for their costs
 abbrev pub AreMeasuredBelow : List Message → List Message → ℕ → Type 0

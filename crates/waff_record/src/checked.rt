@@ -246,15 +246,7 @@ fn is_same_but_cost(message: &Message, other: &Message) -> bool
 fn are_same_awaited(after: &[Await], other: &[Await]) -> bool
     ensures { OnTrue result (after.now ≡ other.now) }
 {
-    if after.len() != other.len() {
-        return false;
-    }
-    for at in 0..after.len() {
-        if after[at] != other[at] {
-            return false;
-        }
-    }
-    true
+    after == other
 }
 
 /// Whether two lists of operations are the same.

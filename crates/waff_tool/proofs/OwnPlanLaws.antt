@@ -26,7 +26,7 @@ use Rattle.waff_assign.proofs.Knowing.{affinity_known}
 use Rattle.waff_plan.specs.Bound.{IsWorkers, left_side, right_side}
 use Rattle.waff_plan.specs.Chain.{IsChain, IsListed, chain_cost, chain_release, gaps_after}
 use Rattle.waff_plan.specs.Instances.{served_first, started_first, work_of_instance}
-use Rattle.waff_plan.specs.Obeys.{AwaitsNone, IsForward, Obeys}
+use Rattle.waff_plan.specs.Obeys.{AwaitsEarlier, AwaitsNone, IsForward, Obeys}
 use Rattle.waff_plan.specs.Timetable.{timings_of, work_of_messages}
 use Rattle.waff_plan.specs.Timing.{start_of}
 use Rattle.waff_plan.specs.Totals.{totals_of}
@@ -324,6 +324,9 @@ module _ (hierarchy_file trace_file : List ℕ) (instance : Instance) (accepts :
   is_trace : IsTrace instance.trace
   is_trace = trace_is_within_limits newest accepts.layout.spaces trace_file instance.trace accepts.is_trace
 
+  pub earlier : AwaitsEarlier (work_of_instance instance)
+  earlier = (are_timings instance.trace is_trace).earlier
+
   within_limits : IsModest instance.trace.version (work_of_instance instance)
   within_limits = modest instance.trace is_trace
 
@@ -402,7 +405,7 @@ module _ (hierarchy_file trace_file : List ℕ) (instance : Instance) (accepts :
         given = plan;
         accepts = read;
         verdict = is;
-        promises = promises claim is_claim runs tree given v is;
+        promises = promises claim is_claim runs earlier tree given v is;
       }
 
   -- that of a plan without workers
@@ -472,7 +475,7 @@ own_plan_passes hierarchy_file trace_file text p =
     short_passes (has_clients i.trace.version) (claim_told i None start no_worker told.chain) hierarchy_file trace_file text
     (checked hierarchy_file trace_file i p.accepts text None start no_worker told.chain obeys is_chain
     (own_plan_fits hierarchy_file trace_file i p.accepts text told) (own_plan_read hierarchy_file trace_file i p.accepts text told))
-    (own_plan_is_shortest i start told.chain p.accepts.assignment.count obeys is_chain told.certified.as_long)
+    (own_plan_is_shortest i start told.chain p.accepts.assignment.count (earlier hierarchy_file trace_file i p.accepts) obeys is_chain told.certified.as_long)
 
 pub own_worker_plan_passes : (rule : Rule) (hierarchy_file trace_file : List ℕ) (k : ℕ) (text : List ℕ) → OwnWorkerPlanPasses rule hierarchy_file trace_file k text
 own_worker_plan_passes rule hierarchy_file trace_file k text workers p =
@@ -483,7 +486,7 @@ own_worker_plan_passes rule hierarchy_file trace_file k text workers p =
     let is_chain = told.bounded.is_chain in
     let prints = checked hierarchy_file trace_file i p.accepts text (Some k) start (seat_of told.workers) told.chain obeys is_chain
     (own_worker_plan_fits hierarchy_file trace_file i p.accepts rule k text workers told) (own_worker_plan_read hierarchy_file trace_file i p.accepts rule k text workers told) in
-    elim (own_plan_is_within_bound i k start (seat_of told.workers) told.chain p.accepts.assignment.count
+    elim (own_plan_is_within_bound i k start (seat_of told.workers) told.chain p.accepts.assignment.count (earlier hierarchy_file trace_file i p.accepts)
     (record { obeys = obeys; within = told.bounded.at_once }) (crew_of hierarchy_file trace_file i p.accepts rule k text told) is_chain told.bounded.bound) [
       | inl short ↦ inl (short_passes (has_clients i.trace.version) (claim_told i (Some k) start (seat_of told.workers) told.chain) hierarchy_file trace_file text prints short)
       | inr within ↦ inr (prints verdict.WithinBound within)
