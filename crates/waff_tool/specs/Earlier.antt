@@ -1,6 +1,6 @@
 -- A trace of the fourth version in which no message has a list, and the same trace of the third: what is
 -- told of the one is told of the other.
-use Rattle.std.specs.Prelude.{◌≡◌, ◌↔◌, ℕ, Bool, true, false, List, [], All, Ok}
+use Rattle.std.specs.Prelude.{◌≡◌, ◌↔◌, ℕ, Bool, true, false, List, [], ◌∷◌, ◌++◌, All, Ok, codes}
 use Rattle.waff_model.specs.Layout.{Hierarchy, Space}
 use Rattle.waff_model.specs.declared.message.Message.{Message}
 use Rattle.waff_model.specs.declared.message.Version.{Version}
@@ -8,6 +8,7 @@ use Rattle.waff_model.specs.declared.message.Version.TheVariants.{V3, V4}
 use Rattle.waff_read.specs.Hierarchies.{hierarchy_of}
 use Rattle.waff_inputs.specs.Known.{trace_of}
 use Rattle.waff_list.specs.declared.rule.Rule.{Rule}
+use Rattle.waff_plan_text.specs.Lines.{text_of}
 use Rattle.waff_check.specs.declared.verdict.Verdict.{Verdict}
 use Rattle.waff_draw.specs.declared.parts.Part.{Part}
 use Rattle.waff_figures.specs.declared.told.Told.{Told}
@@ -16,6 +17,7 @@ use Rattle.waff_inputs.specs.Inputs.{IsToldUnder}
 use Rattle.waff_tool.specs.CheckText.{IsCheckText}
 use Rattle.waff_tool.specs.Comparison.{IsCompareText}
 use Rattle.waff_tool.specs.DrawText.{IsDrawText}
+use Rattle.waff_tool.specs.LimitsText.{IsLimitsText}
 use Rattle.waff_tool.specs.Ranks.{IsRankText}
 use Rattle.waff_tool.specs.Rate.{IsRateText}
 use Rattle.waff_tool.specs.ReplayText.{IsReplayText}
@@ -59,6 +61,21 @@ ToldAlike asked hierarchy_file trace_file earlier_file =
     AreSameUnder hierarchy_file trace_file earlier_file → asks_limits asked ≡ false
     → TellSame (IsToldUnder (Tells asked) hierarchy_file trace_file)
     (IsToldUnder (Tells asked) hierarchy_file earlier_file)
+
+-- a text of lines, and one that has a line less, which is the one of lists
+pub record HasLineMore (text earlier : List ℕ) : Type 0 where
+  pub front : List (List (List ℕ))
+  pub rest : List (List ℕ)
+  pub back : List (List (List ℕ))
+  pub text_is : text ≡ text_of (front ++ (codes "after" ∷ rest) ∷ back)
+  pub earlier_is : earlier ≡ text_of (front ++ back)
+
+-- that has one line more
+abbrev pub LimitsAlike : Rule → List ℕ → List ℕ → List ℕ → Type 0
+LimitsAlike rule hierarchy_file trace_file earlier_file =
+    AreSameUnder hierarchy_file trace_file earlier_file → (workers text earlier : List ℕ)
+    → IsLimitsText rule hierarchy_file trace_file workers text
+    → IsLimitsText rule hierarchy_file earlier_file workers earlier → HasLineMore text earlier
 
 -- the text of a comparison is the same
 abbrev pub ComparedAlike : List ℕ → List ℕ → List ℕ → List ℕ → Type 0
