@@ -84,25 +84,25 @@ told_in v w IsTold Again again hierarchy_file one_file other_file same a p =
 
 -- and back
 told_same : {A : Type 0} (IsTold : Hierarchy → Instance → A → Type 0)
-    → ({v w : Version} → Both v w → (layout : Hierarchy) (tree : List Node) (assigned sizes : List ℕ) (messages : List Message) (a : A)
+    → ((v w : Version) → Both v w → (layout : Hierarchy) (tree : List Node) (assigned sizes : List ℕ) (messages : List Message) (a : A)
     → IsTold layout (instance_in tree assigned sizes messages v) a → IsTold layout (instance_in tree assigned sizes messages w) a)
     → (hierarchy_file trace_file earlier_file : List ℕ) → AreSameUnder hierarchy_file trace_file earlier_file → (a : A)
     → IsToldUnder IsTold hierarchy_file trace_file a ↔ IsToldUnder IsTold hierarchy_file earlier_file a
 told_same IsTold again hierarchy_file trace_file earlier_file same a = (
-  told_in V4 V3 IsTold IsTold (again down) hierarchy_file trace_file earlier_file same a,
-  told_in V3 V4 IsTold IsTold (again up) hierarchy_file earlier_file trace_file (turned V4 V3 hierarchy_file trace_file earlier_file same) a,
+  told_in V4 V3 IsTold IsTold (again V4 V3 down) hierarchy_file trace_file earlier_file same a,
+  told_in V3 V4 IsTold IsTold (again V3 V4 up) hierarchy_file earlier_file trace_file (turned V4 V3 hierarchy_file trace_file earlier_file same) a,
 )
 
 pub told_alike : (asked : Told) (hierarchy_file trace_file earlier_file : List ℕ) → ToldAlike asked hierarchy_file trace_file earlier_file
 told_alike asked hierarchy_file trace_file earlier_file same other =
-    told_same (Tells asked) (λ both layout tree assigned sizes messages text. tells tree assigned sizes messages both asked other layout text)
+    told_same (Tells asked) (λ v w both layout tree assigned sizes messages text. tells tree assigned sizes messages both asked other layout text)
     hierarchy_file trace_file earlier_file same
 
 -- a check
 pub checked_alike : (hierarchy_file trace_file earlier_file plan_file : List ℕ) → CheckedAlike hierarchy_file trace_file earlier_file plan_file
 checked_alike hierarchy_file trace_file earlier_file plan_file same v =
     let both = told_same (λ layout instance v. IsCheckedIn instance plan_file v)
-    (λ both layout tree assigned sizes messages v. checked_in tree assigned sizes messages both plan_file v) hierarchy_file trace_file earlier_file same v in
+    (λ v w both layout tree assigned sizes messages found. checked_in tree assigned sizes messages both plan_file found) hierarchy_file trace_file earlier_file same v in
     ((λ p. from earlier_file (both.0 (to trace_file p))), λ p. from trace_file (both.1 (to earlier_file p)))
   where
     abbrev IsTold : List ℕ → Type 0
@@ -128,7 +128,7 @@ checked_alike hierarchy_file trace_file earlier_file plan_file same v =
 pub rated_alike : (hierarchy_file trace_file earlier_file plan_file : List ℕ) → RatedAlike hierarchy_file trace_file earlier_file plan_file
 rated_alike hierarchy_file trace_file earlier_file plan_file same v text =
     let both = told_same (λ layout instance text. IsRatedIn instance plan_file v text)
-    (λ both layout tree assigned sizes messages text. rated_in tree assigned sizes messages both plan_file v text) hierarchy_file trace_file earlier_file same text in
+    (λ v w both layout tree assigned sizes messages text. rated_in tree assigned sizes messages both plan_file v text) hierarchy_file trace_file earlier_file same text in
     ((λ p. from earlier_file (both.0 (to trace_file p))), λ p. from trace_file (both.1 (to earlier_file p)))
   where
     abbrev IsTold : List ℕ → Type 0
@@ -164,7 +164,7 @@ rated_alike hierarchy_file trace_file earlier_file plan_file same v text =
 pub drawn_alike : (hierarchy_file trace_file earlier_file plan_file : List ℕ) → DrawnAlike hierarchy_file trace_file earlier_file plan_file
 drawn_alike hierarchy_file trace_file earlier_file plan_file same picture part text =
     let both = told_same (λ layout instance text. IsDrawnIn instance plan_file picture part text)
-    (λ both layout tree assigned sizes messages text. drawn_in tree assigned sizes messages both plan_file picture part text)
+    (λ v w both layout tree assigned sizes messages text. drawn_in tree assigned sizes messages both plan_file picture part text)
     hierarchy_file trace_file earlier_file same text in
     ((λ p. from earlier_file (both.0 (to trace_file p))), λ p. from trace_file (both.1 (to earlier_file p)))
   where
