@@ -1,5 +1,5 @@
 -- Who waits for whom, where messages await others: those that wait for nothing await only what is taken.
-use Rattle.std.proofs.Common.{◌≡◌, ◌≢◌, ℕ, zero, suc, ◌+◌, ◌-◌, ◌<◌, ◌≤◌, inl, inr, Bool, true, false, List, [], ◌∷◌, ◌++◌, length, map, get_or, replicate, Contains, arith, refl, sym, ◌∙◌, ap, subst}
+use Rattle.std.proofs.Common.{◌≡◌, ℕ, zero, suc, ◌+◌, ◌-◌, ◌<◌, inl, inr, Bool, true, false, List, [], ◌∷◌, ◌++◌, length, map, get_or, replicate, Contains, arith, refl, sym, ◌∙◌, ap, subst}
 use Rattle.std.specs.List.{range_with_len}
 use Rattle.std.proofs.lemmas.Bool.{cases_eq, false≢true}
 use Rattle.std.proofs.lemmas.List.{get_or-replicate, map-id}
@@ -8,7 +8,7 @@ use Rattle.std.proofs.lemmas.List.FromFn.{get_or-map-range_with_len, get_or-rang
 use Rattle.waff_order.specs.Needs.{IsNeed, needs_of}
 use Rattle.waff_waits.specs.Times.{AreEach}
 use Rattle.waff_waits.specs.Waits.{AreWaits, Enters, HasFinished, IsFree, WhoWaits, waiting_for}
-use Rattle.waff_waits.proofs.Each.{contains_map, contains_mapped, each_same, none_there, times_listed}
+use Rattle.waff_waits.proofs.Each.{each_same, none_there, times_append, times_listed}
 use Rattle.waff_waits.proofs.TimesLemmas.{times_some}
 use Rattle.waff_waits.proofs.Waiting.{after_finish, finished_here, finished_there, free_over, over_free, waits_entered, waits_finished}
 use Rattle.waff_plan.specs.Awaiting.{AreAwaiting, IsOpen, awaited_by}
@@ -44,6 +44,19 @@ listed_awaited : (awaits : List Await) (i : ℕ) → Contains (map (λ (a : Awai
 listed_awaited [] i there = absurd (none_there i there)
 listed_awaited (a ∷ rest) i (zero, within, at) = inl at
 listed_awaited (a ∷ rest) i (suc k, within, at) = inr (listed_awaited rest i (k, omega (arith, within), at))
+
+-- a message waits for some, and then for more
+pub enters_on : (old mid new : WhoWaits) (m : ℕ) (xs ys : List ℕ) → Enters old m xs mid → Enters mid m ys new → Enters old m (xs ++ ys) new
+enters_on old mid new m xs ys first second = record {
+  count = second.count ∙ first.count;
+  finished = second.finished ∙ first.finished;
+  others = λ i x other. second.others i x other ∙ first.others i x other;
+  waits = λ i from undone.
+      let still : ¬ HasFinished mid i = λ done. undone (subst (λ (marks : List Bool). get_or marks (i - 1) false ≡ true) first.finished done) in
+      omega (arith, first.waits i from undone, second.waits i from still, times_append i xs ys);
+  over = λ i from done.
+      second.over i from (subst (λ (marks : List Bool). get_or marks (i - 1) false ≡ true) (sym first.finished) done) ∙ first.over i from done;
+}
 
 module _ (work : Work) where
   abbrev needs : List (List ℕ)

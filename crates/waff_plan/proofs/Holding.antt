@@ -1,8 +1,8 @@
 -- What holds a message back: its floor, the messages before it, and those that it awaits.
-use Rattle.std.proofs.Common.{◌≡◌, ℕ, ◌+◌, ◌≤◌, ◌⊎◌, inl, inr, eqb, max, List, [], ◌∷◌, cond, arith, refl, ap}
+use Rattle.std.proofs.Common.{◌≡◌, ℕ, ◌+◌, ◌≤◌, ◌⊎◌, inl, inr, eqb, List, [], ◌∷◌, cond, arith, refl, ap}
 use Rattle.std.proofs.lemmas.Bool.{cases_eq, eq-eqb, ne_eqb, cond-true, cond-false}
 use Rattle.waff_assign.specs.Order.{Relation}
-use Rattle.waff_plan.specs.Work.{Await, Work, IsAwaited, IsNumber, finish_of, gap_after, gap_of, holds_until, issue_after, issue_of}
+use Rattle.waff_plan.specs.Work.{Await, Work, IsAwaited, IsNumber, finish_of, gap_after, holds_until, issue_after, issue_of}
 use Rattle.waff_plan.specs.Obeys.{IsLinked, Obeys}
 
 -- the gap of one that is awaited, where it is message i, and where it is another

@@ -1,6 +1,5 @@
 -- What is known while messages are taken in the order of issue.
-use Rattle.std.proofs.Common.{◌≡◌, ◌≢◌, ℕ, ◌+◌, ◌-◌, ◌*◌, ◌<◌, ◌≤◌, ◌⊎◌, inl, inr, max, true, List, [], ◌∷◌, ◌++◌, length, set, Contains, Option, Some, None, MatchOption, All, arith, refl, sym, ◌∙◌, ap, subst}
-use Rattle.std.specs.List.Sorted.{IsPermutation}
+use Rattle.std.proofs.Common.{◌≡◌, ◌≢◌, ℕ, ◌+◌, ◌-◌, ◌*◌, ◌<◌, ◌≤◌, ◌⊎◌, inl, inr, max, true, List, [], ◌∷◌, ◌++◌, length, set, Contains, Option, Some, None, MatchOption, All, arith, refl, sym, ◌∙◌, subst}
 use Rattle.std.proofs.lemmas.List.{get_or-set_same, get_or-set_other, length-set, length_push}
 use Rattle.std.proofs.lemmas.List.Elements.{Contains-push_cases}
 use Rattle.waff_model.specs.Tree.{Node}
@@ -18,11 +17,12 @@ use Rattle.waff_plan.specs.Due.{LeavesDue}
 use Rattle.waff_plan.specs.Pending.{Issue, AreFirst}
 use Rattle.waff_plan.specs.Table.{LatestTable, IsTable, IsLatestExcluding}
 use Rattle.waff_plan.specs.Timing.{IsTiming, no_timing, start_of, timing_of, work_of}
+use Rattle.waff_plan.specs.declared.timing.Awaited.TheVariants.{Every}
 use Rattle.waff_plan.specs.declared.timing.Timing.{Timing}
 use Rattle.waff_plan.specs.declared.latest.Latest.{Latest}
 use Rattle.waff_plan.specs.declared.waits.Since.TheVariants.{Release}
 use Rattle.waff_plan.proofs.AwaitingLemmas.{IsDue, each_due, each_free, taken_too, waiting_awaits}
-use Rattle.waff_plan.proofs.FollowLemmas.{gap_within}
+use Rattle.waff_plan.proofs.FollowLemmas.{gap_limit}
 use Rattle.waff_plan.proofs.Holding.{issued_by}
 use Rattle.waff_plan.proofs.IssueFirst.{pending_first, taken_none}
 use Rattle.waff_plan.proofs.IssueSteps.{AreTaken, ArePending, apart_of, due_of, each_taken, order_finish, pending_from, taken_more, those, untaken, untaken_all, untaken_less, x_there}
@@ -42,10 +42,7 @@ pub small_work : (timings : List Timing) → All IsTiming timings → IsSmall (w
 small_work timings small = record {
   cost = λ m number. (small (m - 1) no_timing (omega (arith, number.from, number.to))).cost;
   floor = λ m number. (small (m - 1) no_timing (omega (arith, number.from, number.to))).floor;
-  gap = λ i m number.
-      let timing = timing_of timings m in
-      let within = gap_within timing.follows timing.think i in
-      omega (arith, within, (small (m - 1) no_timing (omega (arith, number.from, number.to))).think);
+  gap = λ i m number. gap_limit Every (timing_of timings m) i (small (m - 1) no_timing (omega (arith, number.from, number.to)));
 }
 
 module _ (tree : List Node) (spans : List Span) (assigned : List ℕ) (work : Work) (key : Key) where

@@ -13,6 +13,7 @@ pub mod AwaitingLemmas
 mod IssueSteps
 mod DueLemmas
 pub mod FollowLemmas
+pub mod AwaitLemmas
 pub mod ClientLemmas
 pub mod TimingLemmas
 mod LastLemmas

@@ -1,6 +1,6 @@
 -- No plan that obeys is shorter than its share of the work, than what one client needs, or than what
 -- runs on one path of affinities.
-use Rattle.std.proofs.Common.{◌≡◌, ℕ, zero, suc, ◌+◌, ◌-◌, ◌*◌, ◌^◌, ◌<◌, ◌≤◌, inl, inr, true, Bool, cond, eqb, max, List, [], ◌∷◌, ◌++◌, All, map, length, get_or, set, sum_by, count_by, Option, Some, None, IfSome, arith, refl, sym, ◌∙◌, ap, subst}
+use Rattle.std.proofs.Common.{◌≡◌, ℕ, zero, suc, ◌+◌, ◌-◌, ◌*◌, ◌^◌, ◌<◌, ◌≤◌, inl, inr, true, Bool, cond, eqb, List, [], ◌∷◌, ◌++◌, All, map, length, get_or, set, sum_by, count_by, Option, Some, None, IfSome, arith, refl, sym, ◌∙◌, ap, subst}
 use Rattle.std.specs.List.{range_with_len}
 use Rattle.std.proofs.lemmas.Bool.{cases_Bool, cases_eq, cases_lt, cond-true, cond-false, eq-eqb, ne_eqb}
 use Rattle.std.proofs.lemmas.List.{get_or_past, get_or-set_other, get_or-set_same}
@@ -15,12 +15,13 @@ use Rattle.waff_plan.specs.Bound.{IsWorkers}
 use Rattle.waff_plan.specs.IssueLaws.{StartsIssued}
 use Rattle.waff_plan.specs.LowerBound.{NoneIsBelow, earliest_finish, cost_by, cost_in, finish_by, of_parent, own_cost, path_cost, share_in}
 use Rattle.waff_plan.specs.Obeys.{AwaitsEarlier}
-use Rattle.waff_plan.specs.Timing.{IsTiming, no_timing, timing_of, work_of}
+use Rattle.waff_plan.specs.Timing.{IsTiming, no_timing, timing_of, work_by}
+use Rattle.waff_plan.specs.declared.timing.Awaited.{Awaited}
 use Rattle.waff_plan.specs.declared.timing.Timing.{Timing}
 use Rattle.waff_plan.specs.Work.{Await, IsAwaited, IsNumber, Work, finish_of, gap_of, greatest, issue_after, length_of, numbers, total_of}
 use Rattle.waff_plan.specs.Workers.{IsWorkerPlan, running, runs_at}
 use Rattle.waff_plan.proofs.ApartLaws.{runs_from, runs_parts}
-use Rattle.waff_plan.proofs.FollowLemmas.{gap_within}
+use Rattle.waff_plan.proofs.FollowLemmas.{gap_limit}
 use Rattle.waff_plan.proofs.Holding.{floor-le-issue, issue_again, issue_sooner, issued_by}
 use Rattle.waff_plan.proofs.Longest.{finish_of-le-length_of, length_of-le, sum_more}
 use Rattle.waff_plan.proofs.Shares.{share_is_within}
@@ -287,9 +288,9 @@ module _ (work : Work) (follows : AwaitsEarlier work) where
       (λ i awaited. let before = follows i m awaited in enough n k i (omega (arith, before.earlier, few)) (omega (arith, before.earlier, also))))
 
   -- by the messages that it awaits
-  pub client_is : (m : ℕ) → IsNumber work m → earliest_finish work m ≡ issue_after (earliest_finish work) (work.floor m) (work.awaits m) + work.cost m
-  client_is zero number = absurd (omega (arith, number.from))
-  client_is (suc k) number =
+  pub earliest_is : (m : ℕ) → IsNumber work m → earliest_finish work m ≡ issue_after (earliest_finish work) (work.floor m) (work.awaits m) + work.cost m
+  earliest_is zero number = absurd (omega (arith, number.from))
+  earliest_is (suc k) number =
       ap (λ issue. issue + work.cost (suc k))
       (issue_again (finish_by work k) (earliest_finish work) (work.floor (suc k)) (work.awaits (suc k))
       (λ i awaited. let before = follows i (suc k) awaited in enough k i i (omega (arith, before.earlier)) (omega arith)))
@@ -403,12 +404,12 @@ small_more costs n a now cost from within so_far is small b there = elim (cases_
 ]
 
 -- the timings of messages are small
-pub timing_limits : (timings : List Timing) → All IsTiming timings → AreLimits (work_of timings)
-timing_limits timings small m number =
+pub timing_limits : (awaited : Awaited) (timings : List Timing) → All IsTiming timings → AreLimits (work_by awaited timings)
+timing_limits awaited timings small m number =
     let timing = small (m - 1) no_timing (omega (arith, number.from, number.to)) in
     let at = timing_of timings m in (
       omega (arith, timing.floor),
-      (λ i. let within = gap_within at.follows at.think i in omega (arith, within, timing.think)),
+      (λ i. let within = gap_limit awaited at i timing in omega (arith, within)),
       omega (arith, timing.cost),
     )
 

@@ -3,7 +3,7 @@ use Rattle.std.proofs.Common.{◌≡◌, ℕ, ◌≤◌, ◌↔◌, inl, inr, Li
 use Rattle.std.proofs.lemmas.Bool.{cases_lt}
 use Rattle.waff_model.specs.Tree.{Node}
 use Rattle.waff_model.specs.declared.message.Version.{Version}
-use Rattle.waff_model.specs.declared.message.Version.TheVariants.{V1, V2, V3}
+use Rattle.waff_model.specs.declared.message.Version.TheVariants.{V1, V2, V3, V4}
 use Rattle.waff_assign.specs.Order.{IsOrdered, Relation}
 use Rattle.waff_plan.specs.Obeys.{AwaitsEarlier, IsForward, IsLinked}
 use Rattle.waff_plan.specs.Order.{ComesBefore, IsServiceKey, Precedes, Serves, key_of}
@@ -23,12 +23,19 @@ key_rises V3 work follows start i m follow issued =
       | inl sooner ↦ inl sooner
       | inr no_sooner ↦ inr (omega (arith, later, no_sooner), (follows i m follow).earlier)
     ]
+key_rises V4 work follows start i m follow issued =
+    let later : issue_of work start i ≤ issue_of work start m = omega (arith, issued, awaited-le-issue work start i m follow) in
+    elim (cases_lt (issue_of work start i) (issue_of work start m)) [
+      | inl sooner ↦ inl sooner
+      | inr no_sooner ↦ inr (omega (arith, later, no_sooner), (follows i m follow).earlier)
+    ]
 
 key_kept : (version : Version) (work : Work) (start other : ℕ → ℕ) (m : ℕ) → ((i : ℕ) → IsAwaited (work.awaits m) i → start i ≡ other i)
     → key_of version work start m ≡ key_of version work other m
 key_kept V1 work start other m same = refl
 key_kept V2 work start other m same = refl
 key_kept V3 work start other m same = same_issue work start other m same
+key_kept V4 work start other m same = same_issue work start other m same
 
 pub service_key : (version : Version) (work : Work) → AwaitsEarlier work → IsServiceKey work (key_of version work)
 service_key version work follows = record { kept = key_kept version work; rises = key_rises version work follows }
@@ -99,3 +106,4 @@ module _ (tree : List Node) (assigned : List ℕ) (work : Work) (same : length a
   served_by_key V1 start i j = ordered_by_zero i j
   served_by_key V2 start i j = ordered_by_zero i j
   served_by_key V3 start i j = (λ served. served, λ served. served)
+  served_by_key V4 start i j = (λ served. served, λ served. served)

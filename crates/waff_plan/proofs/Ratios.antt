@@ -3,7 +3,7 @@ use Rattle.std.proofs.Common.{◌≡◌, ℕ, ◌+◌, ◌-◌, ◌*◌, ◌≤�
 use Rattle.std.proofs.Math.Nat.{mul-le-mul_left, mul-le-mul_right}
 use Rattle.waff_assign.specs.Order.{Relation}
 use Rattle.waff_plan.specs.Work.{Work, IsAwaited, IsNumber, gap_of, length_of, total_of}
-use Rattle.waff_plan.specs.Chain.{LinksOn, IsChain, chain_cost, chain_release, gaps_after}
+use Rattle.waff_plan.specs.Chain.{IsChain, chain_cost, chain_release, gaps_after}
 use Rattle.waff_plan.proofs.Chains.{chains_are_within_length, first_is_number}
 use Rattle.waff_plan.proofs.Followings.{gap_or_awaited}
 use Rattle.waff_plan.proofs.Ticks.{total_is_within_workers}

@@ -4,7 +4,7 @@ use Rattle.std.proofs.lemmas.Bool.{false≢true}
 use Rattle.waff_model.specs.Tree.{Node}
 use Rattle.waff_model.specs.Versions.{has_clients}
 use Rattle.waff_model.specs.declared.message.Version.{Version}
-use Rattle.waff_model.specs.declared.message.Version.TheVariants.{V1, V2, V3}
+use Rattle.waff_model.specs.declared.message.Version.TheVariants.{V1, V2, V3, V4}
 use Rattle.waff_assign.specs.Order.{IsOrdered}
 use Rattle.waff_plan.specs.Links.{IsLink}
 use Rattle.waff_plan.specs.Obeys.{EachRuns, AwaitsEarlier, IsForward, IsLeast, Obeys, StartsIssued}
@@ -32,6 +32,7 @@ abbrev pub place_in : Version → Work → (ℕ → ℕ) → ℕ → ℕ
 place_in V1 work start m = m
 place_in V2 work start m = m
 place_in V3 work start m = place_of work start m
+place_in V4 work start m = place_of work start m
 
 -- where there is a message its place, else 0
 abbrev pub place_or : (ℕ → ℕ) → Option ℕ → ℕ
@@ -46,6 +47,8 @@ least_served_is_one V1 tree assigned work follows start other one two = least_is
 least_served_is_one V2 tree assigned work follows start other one two = least_is_one (IsOrdered tree assigned) work start other one two
 least_served_is_one V3 tree assigned work follows start other one two =
     least_by_key_is_one tree assigned work (key_of V3 work) follows (service_key V3 work follows) start other one two
+least_served_is_one V4 tree assigned work follows start other one two =
+    least_by_key_is_one tree assigned work (key_of V4 work) follows (service_key V4 work follows) start other one two
 
 module _ (tree : List Node) (assigned : List ℕ) (timings : List Timing) (start : ℕ → ℕ) (same : length timings ≡ length assigned) where
   -- the order that is served is that of chains
@@ -54,12 +57,14 @@ module _ (tree : List Node) (assigned : List ℕ) (timings : List Timing) (start
   served_to_started V1 are obeys i j pair = pair
   served_to_started V2 are obeys i j pair = pair
   served_to_started V3 are obeys i j pair = (served_starts tree assigned (work_of timings) (sym same) (each_runs V3 timings are) start obeys i j).0 pair
+  served_to_started V4 are obeys i j pair = (served_starts tree assigned (work_of timings) (sym same) (each_runs V4 timings are) start obeys i j).0 pair
 
   pub started_to_served : (version : Version) → AreTimings version timings → Obeys (served_before version tree assigned (work_of timings) start) (work_of timings) start
       → (i j : ℕ) → started_before version tree assigned start i j → served_before version tree assigned (work_of timings) start i j
   started_to_served V1 are obeys i j pair = pair
   started_to_served V2 are obeys i j pair = pair
   started_to_served V3 are obeys i j pair = (served_starts tree assigned (work_of timings) (sym same) (each_runs V3 timings are) start obeys i j).1 pair
+  started_to_served V4 are obeys i j pair = (served_starts tree assigned (work_of timings) (sym same) (each_runs V4 timings are) start obeys i j).1 pair
 
   pub served_obeys_started : (version : Version) → AreTimings version timings → Obeys (served_before version tree assigned (work_of timings) start) (work_of timings) start
       → Obeys (started_before version tree assigned start) (work_of timings) start
@@ -81,6 +86,8 @@ module _ (tree : List Node) (assigned : List ℕ) (timings : List Timing) (start
   issued_forward V2 are issued = timings_forward tree assigned timings (sym same) are.earlier
   issued_forward V3 are issued =
       IsStartedBefore_forward tree assigned (work_of timings) (sym same) (each_runs V3 timings are) start (issued refl) are.earlier
+  issued_forward V4 are issued =
+      IsStartedBefore_forward tree assigned (work_of timings) (sym same) (each_runs V4 timings are) start (issued refl) are.earlier
 
   pub started_forward : (version : Version) → AreTimings version timings
       → (has_clients version ≡ true → Obeys (served_before version tree assigned (work_of timings) start) (work_of timings) start)
@@ -97,6 +104,10 @@ module _ (tree : List Node) (assigned : List ℕ) (timings : List Timing) (start
     issued = (obeys refl).issued;
     apart = served_apart tree assigned (work_of timings) (sym same) (each_runs V3 timings are) start (obeys refl);
   }
+  served_obeys_apart V4 are obeys clients = record {
+    issued = (obeys refl).issued;
+    apart = served_apart tree assigned (work_of timings) (sym same) (each_runs V4 timings are) start (obeys refl);
+  }
 
   -- what holds back a message has a lower place
   pub lower_link : (version : Version) → AreTimings version timings → (has_clients version ≡ true → StartsIssued (work_of timings) start)
@@ -107,6 +118,10 @@ module _ (tree : List Node) (assigned : List ℕ) (timings : List Timing) (start
   lower_link V2 are issued m None number is = number.from
   lower_link V2 are issued m (Some i) number is = elim is.0.one [ inl before ↦ before.earlier | inr follow ↦ (are.earlier i m follow).earlier ]
   lower_link V3 are issued m None number is = place_from (work_of timings) start m number
+  lower_link V4 are issued m None number is = place_from (work_of timings) start m number
   lower_link V3 are issued m (Some i) number is =
       earlier_place (work_of timings) start i m number
       (inl (started_first tree assigned (work_of timings) (sym same) (each_runs V3 timings are) start (issued refl) are.earlier i m is.0.one))
+  lower_link V4 are issued m (Some i) number is =
+      earlier_place (work_of timings) start i m number
+      (inl (started_first tree assigned (work_of timings) (sym same) (each_runs V4 timings are) start (issued refl) are.earlier i m is.0.one))

@@ -5,7 +5,7 @@ use Rattle.std.proofs.lemmas.List.{get_or-set_other, get_or-set_same, get_or_def
 use Rattle.waff_model.specs.Tree.{Node, Excludes}
 use Rattle.waff_model.specs.Versions.{has_clients}
 use Rattle.waff_model.specs.declared.message.Version.{Version}
-use Rattle.waff_model.specs.declared.message.Version.TheVariants.{V1, V2, V3}
+use Rattle.waff_model.specs.declared.message.Version.TheVariants.{V1, V2, V3, V4}
 use Rattle.waff_assign.specs.Order.{IsOrdered, Relation, affinity_of}
 use Rattle.waff_plan.specs.ByStart.{AreByStart, started_at, started_of}
 use Rattle.waff_plan.specs.Obeys.{EachRuns}
@@ -52,18 +52,30 @@ module _ (tree : List Node) (assigned : List ℕ) (work : Work) (same : length a
     excludes = λ i m pair. pair.excludes;
     sooner = λ i m pair. pair.precedes;
   }
+  sorts V4 start runs obeys = record {
+    to = λ i m first second other excludes no_later.
+        let one : IsAmongFirst (length assigned) i = record { from = first.from; to = omega (arith, first.to, same) } in
+        let two : IsAmongFirst (length assigned) m = record { from = second.from; to = omega (arith, second.to, same) } in
+        let done = apart_finish tree assigned work same runs start (obeys refl).apart i m other one two excludes no_later in
+        record { first = one; second = two; precedes = omega (arith, done, runs i first); excludes = excludes };
+    number = λ i m pair. record { from = pair.first.from; to = omega (arith, pair.first.to, same) };
+    excludes = λ i m pair. pair.excludes;
+    sooner = λ i m pair. pair.precedes;
+  }
 
 -- before the third version the key is the number
 pub numbers_key : (version : Version) (start : ℕ → ℕ) → has_clients version ≡ false → chain_key version start ≡ (λ m. m)
 numbers_key V1 start without = refl
 numbers_key V2 start without = refl
 numbers_key V3 start without = absurd (false≢true (sym without))
+numbers_key V4 start without = absurd (false≢true (sym without))
 
 -- from the third on it is the start
 pub starts_key : (version : Version) (start : ℕ → ℕ) → has_clients version ≡ true → chain_key version start ≡ start
 starts_key V1 start has = absurd (false≢true has)
 starts_key V2 start has = absurd (false≢true has)
 starts_key V3 start has = refl
+starts_key V4 start has = refl
 
 module _ (work : Work) (start : ℕ → ℕ) (started : List Started) (are : AreByStart work start started) where
   abbrev nobody : Started

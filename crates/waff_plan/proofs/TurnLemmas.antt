@@ -6,7 +6,7 @@ use Rattle.std.proofs.lemmas.List.FromFn.{get_or-map-range_with_len, length-map-
 use Rattle.std.proofs.lemmas.List.Sorted.{IsPermutation-refl}
 use Rattle.waff_model.specs.Versions.{has_clients}
 use Rattle.waff_model.specs.declared.message.Version.{Version}
-use Rattle.waff_model.specs.declared.message.Version.TheVariants.{V1, V2, V3}
+use Rattle.waff_model.specs.declared.message.Version.TheVariants.{V1, V2, V3, V4}
 use Rattle.waff_plan.specs.Obeys.{AwaitsNone}
 use Rattle.waff_plan.specs.Order.{key_of}
 use Rattle.waff_plan.specs.Due.{LeavesDue}
@@ -74,21 +74,25 @@ pub has_followed : (version : Version) (timings : List Timing) → AreTimings ve
 has_followed V1 timings are i m awaited = absurd (none_awaited ((work_of timings).awaits m) i (follows_none V1 timings are refl m) awaited)
 has_followed V2 timings are i m awaited = absurd (none_awaited ((work_of timings).awaits m) i (follows_none V2 timings are refl m) awaited)
 has_followed V3 timings are i m awaited = refl
+has_followed V4 timings are i m awaited = refl
 
 pub first_numbers : (version : Version) (timings : List Timing) → AreTimings version timings → has_clients version ≡ false
     → AreFirst (work_of timings) (key_of version (work_of timings)) (numbered 1 (length timings + 1))
 first_numbers V1 timings are without = zero_first (work_of timings) (follows_none V1 timings are without)
 first_numbers V2 timings are without = zero_first (work_of timings) (follows_none V2 timings are without)
 first_numbers V3 timings are without = absurd (false≢true (sym without))
+first_numbers V4 timings are without = absurd (false≢true (sym without))
 
 pub first_issued : (version : Version) (work : Work) (first : List Issue) → has_clients version ≡ true → AreFirst work (issue_of work) first
     → AreFirst work (key_of version work) first
 first_issued V1 work first has are = absurd (false≢true has)
 first_issued V2 work first has are = absurd (false≢true has)
 first_issued V3 work first has are = are
+first_issued V4 work first has are = are
 
 -- where messages are of clients the key is the issue
 pub key_is_issue : (version : Version) (work : Work) (start : ℕ → ℕ) (m : ℕ) → has_clients version ≡ true → key_of version work start m ≡ issue_of work start m
 key_is_issue V1 work start m has = absurd (false≢true has)
 key_is_issue V2 work start m has = absurd (false≢true has)
 key_is_issue V3 work start m has = refl
+key_is_issue V4 work start m has = refl

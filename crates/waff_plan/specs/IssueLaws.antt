@@ -30,7 +30,7 @@ pub record IsLawful (before : Relation) (work : Work) : Type 0 where
 -- messages of no client, which no client thinks about, and which have no lists
 abbrev pub AreOfNoClient : List Message → Type 0
 AreOfNoClient messages =
-    All (λ message. (message.client ≡ no_client) × (message.think ≡ 0) × (message.after ≡ [])) messages
+    All (λ message. (message.client ≡ no_client) × ((message.think ≡ 0) × (message.after ≡ []))) messages
 
 -- the order of issue is total: no message is issued before itself; what is issued before another is
 -- issued before all that this one is issued before; and of two messages one is issued before the other

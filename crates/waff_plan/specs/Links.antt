@@ -2,7 +2,7 @@
 use Rattle.std.specs.Prelude.{ℕ, ◌+◌, ◌-◌, ◌<◌, ◌≤◌, List, [], ◌∷◌, Option, Some, None}
 use Rattle.std.specs.Prelude.{MatchOption, nat_lt, slice_index_or, if◌then◌else◌}
 use Rattle.waff_assign.specs.Order.{Relation}
-use Rattle.waff_plan.specs.Work.{Await, Work, finish_of, holds_until}
+use Rattle.waff_plan.specs.Work.{Await, Work, holds_until}
 use Rattle.waff_plan.specs.Obeys.{IsLinked}
 use Rattle.waff_plan.specs.Chain.{IsLatest}
 use Rattle.waff_plan.specs.Latest.{later_of}

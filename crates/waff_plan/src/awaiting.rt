@@ -1,13 +1,14 @@
 //! Who awaits whom, and which messages await none.
 
-ghost use Rattle.std.specs.Prelude.{◌≤◌, length, map, All, IfOk, OnOk, []};
+ghost use Rattle.std.specs.Prelude.{◌≤◌, ℕ, length, map, IfOk, OnOk, []};
 ghost use Rattle.waff_model.specs.Numbers.{IsAmongFirst};
 ghost use Rattle.waff_model.specs.declared.limits.TheConstants.{MAX_MESSAGES};
 ghost use Rattle.waff_plan.specs.Awaiting.{AreAwaiting};
 ghost use Rattle.waff_plan.specs.Obeys.{AwaitsEarlier};
 ghost use Rattle.waff_plan.specs.Pending.{AreFirst};
-ghost use Rattle.waff_plan.specs.Timing.{work_of};
-ghost use Rattle.waff_plan.specs.Work.{issue_of};
+ghost use Rattle.waff_plan.specs.Timing.{awaits_by, work_of};
+ghost use Rattle.waff_plan.specs.declared.timing.Awaited.TheVariants.{Every};
+ghost use Rattle.waff_plan.specs.Work.{IsAwaited, issue_of};
 ghost use Rattle.waff_waits.specs.Waits.{Enters};
 
 use crate::{Due, Timing};
@@ -24,19 +25,30 @@ pub fn awaiting(alloc: Global, timings: &[Timing]) -> Result<Waits, AllocError>
 {
     let mut waits = Waits::none(alloc, timings.len())?;
     for m in 1..timings.len() as u32 + 1 {
-        let timing = &timings[m as usize - 1];
-        if timing.follows != 0 {
-            waits.enter(m, &[timing.follows])?;
-        }
-        enter_all(&mut waits, m, timing.after.as_slice())?;
+        enter(&mut waits, m, &timings[m as usize - 1])?;
     }
     Ok(waits)
+}
+
+/// Message `m`, which has this timing, waits for all that it awaits.
+fn enter(waits: &mut Waits, m: u32, timing: &Timing) -> Result<(), AllocError>
+    requires number { IsAmongFirst (length waits.old.awaited) m }
+    requires awaited { (i : ℕ) → IsAwaited (awaits_by Every timing.now) i
+        → IsAmongFirst (length waits.old.awaited) i }
+    ensures { OnOk result (Enters waits.old m
+        (map (λ a. a.message) (awaits_by Every timing.now)) waits.new) }
+{
+    if timing.follows != 0 {
+        waits.enter(m, &[timing.follows])?;
+    }
+    enter_all(waits, m, timing.after.as_slice())?;
+    Ok(())
 }
 
 /// Message `m` waits for each of these.
 fn enter_all(waits: &mut Waits, m: u32, after: &[Await]) -> Result<(), AllocError>
     requires number { IsAmongFirst (length waits.old.awaited) m }
-    requires awaited { All (λ a. IsAmongFirst (length waits.old.awaited) a.message) after.now }
+    requires awaited { (i : ℕ) → IsAwaited after.now i → IsAmongFirst (length waits.old.awaited) i }
     ensures { OnOk result (Enters waits.old m (map (λ a. a.message) after.now) waits.new) }
 {
     for k in 0..after.len() {
@@ -53,7 +65,7 @@ pub fn first_issues(alloc: Global, timings: &[Timing]) -> Result<Due, AllocError
     let mut issues = Vec::with_capacity(alloc, timings.len())?;
     for m in 1..timings.len() as u32 + 1 {
         let timing = &timings[m as usize - 1];
-        if timing.follows == 0 && timing.after.as_slice().is_empty() {
+        if timing.is_alone() {
             issues.push_reserved(Reverse((u64::from(timing.floor), m)));
         }
     }

@@ -1,14 +1,15 @@
 //! A lower bound on the length of plans that obey in whatever order.
 
-ghost use Rattle.std.specs.Prelude.{◌≡◌, ◌+◌, ◌^◌, ◌<◌, ◌≤◌, ℕ, List, Option, IfOk, IfSome, length, map};
+ghost use Rattle.std.specs.Prelude.{◌≡◌, ◌+◌, ◌-◌, ◌^◌, ◌<◌, ◌≤◌, ℕ, List, Option, All, IfOk, IfSome, length, map, max};
 ghost use Rattle.std.specs.Prelude.{slice_index_or};
 ghost use Rattle.std.specs.List.{range_with_len};
 ghost use Rattle.waff_model.specs.Tree.{Node};
+ghost use Rattle.waff_model.specs.declared.limits.TheConstants.{MAX_THINK};
 ghost use Rattle.waff_plan.specs.Bound.{IsWorkers};
 ghost use Rattle.waff_plan.specs.Planned.{planned_work};
 ghost use Rattle.waff_plan.specs.Timetable.{work_in};
 ghost use Rattle.waff_plan.specs.Timing.{work_by};
-ghost use Rattle.waff_plan.specs.Work.{IsNumber, Work, greatest, numbers, total_of};
+ghost use Rattle.waff_plan.specs.Work.{IsAmongFirst, IsAwaited, IsNumber, Work, greatest, issue_after, numbers, total_of};
 ghost use Rattle.waff_plan.specs.LowerBound.{earliest_finish, lower_bound_of, own_cost, path_cost};
 ghost use Rattle.waff_plan.specs.LowerBound.{NoneIsBelow, share_in};
 ghost use Rattle.waff_plan.specs.Peak.{IsPeak};
@@ -90,20 +91,34 @@ fn earliest(plan: &Plan, awaited: Awaited, finishes: &[u64], n: u32) -> u64
     ensures { result ≡ earliest_finish (work_by awaited plan.now.timings) n }
 {
     let _messages = plan.len();
-    let after = match awaited {
-        Awaited::Client => &[],
-        Awaited::Every => plan.after(n),
+    let listed = match awaited {
+        Awaited::Client => plan.release(n),
+        Awaited::Every => issue_behind(finishes, plan.release(n), plan.after(n)),
     };
-    let mut issue = plan.release(n);
+    let before = plan.follows(n);
+    let issue = if before == 0 {
+        listed
+    } else {
+        listed.max(finishes[before as usize - 1] + plan.think(n))
+    };
+    issue + plan.cost(n)
+}
+
+// The issue of a message of this floor that awaits these, where messages finish at these ticks.
+fn issue_behind(finishes: &[u64], floor: u64, after: &[Await]) -> u64
+    requires known { (i : ℕ) → IsAwaited after.now i → IsAmongFirst (length finishes.now) i }
+    requires early { All (λ finish. finish ≤ 2 ^ 46) finishes.now }
+    requires gaps { All (λ a. a.gap ≤ MAX_THINK) after.now }
+    ensures issue { result
+        ≡ issue_after (λ i. slice_index_or finishes.now (i - 1) 0) floor after.now }
+    ensures early { result ≤ max floor (2 ^ 47) }
+{
+    let mut issue = floor;
     for k in (0..after.len()).rev() {
         let Await { message, gap } = after[k];
         issue = issue.max(finishes[message as usize - 1] + u64::from(gap));
     }
-    let before = plan.follows(n);
-    if before != 0 {
-        issue = issue.max(finishes[before as usize - 1] + plan.think(n));
-    }
-    issue + plan.cost(n)
+    issue
 }
 
 /// The greatest sum of the costs of the messages in an affinity and above it, and the affinity.

@@ -1,10 +1,11 @@
 //! The timings of messages.
 
-ghost use Rattle.std.specs.Prelude.{◌≡◌, ℕ, ◌+◌, ◌-◌, ◌^◌, ◌<◌, ◌≤◌, List, length, All, IfOk, OnOk};
+ghost use Rattle.std.specs.Prelude.{◌≡◌, ℕ, ◌+◌, ◌-◌, ◌^◌, ◌<◌, ◌≤◌, ◌↔◌, List, [], length, All, IfOk, IsTrue, OnOk};
 ghost use Rattle.waff_plan.specs.Clients.{client_of, one_before};
 ghost use Rattle.waff_plan.specs.LastMessages.{AreLast};
 ghost use Rattle.waff_plan.specs.Timetable.{AreTimings, timing_after, timings_of};
-ghost use Rattle.waff_plan.specs.Timing.{HasIssue, IsTiming, start_of, work_of};
+ghost use Rattle.waff_plan.specs.Timing.{HasIssue, IsTiming, awaits_by, start_of, work_of};
+ghost use Rattle.waff_plan.specs.declared.timing.Awaited.TheVariants.{Every};
 ghost use Rattle.waff_plan.specs.Work.{IsAmongFirst, finish_of, issue_of};
 
 use std::alloc::{AllocError, Global};
@@ -38,6 +39,15 @@ impl Drop for Timing {
             after,
         } = self;
         drop(after);
+    }
+}
+
+impl Timing {
+    /// Whether the message awaits none.
+    pub fn is_alone(&self) -> bool
+        ensures { IsTrue result ↔ (awaits_by Every self.now ≡ []) }
+    {
+        self.follows == 0 && self.after.as_slice().is_empty()
     }
 }
 
@@ -120,10 +130,11 @@ pub fn issue(timings: &[Timing], starts: &[u64], m: u32) -> u64
         let Await { message, gap } = after[k];
         issue = issue.max(finish(timings, starts, message) + u64::from(gap));
     }
-    match timing.follows {
-        0 => issue,
-        before => issue.max(finish(timings, starts, before) + u64::from(timing.think)),
+    let before = timing.follows;
+    if before == 0 {
+        return issue;
     }
+    issue.max(finish(timings, starts, before) + u64::from(timing.think))
 }
 
 /// The tick at which message `i` finishes, where messages start at these ticks.

@@ -1,4 +1,4 @@
-use Rattle.std.proofs.Common.{◌≡◌, ℕ, ◌-◌, false, length, replicate}
+use Rattle.std.proofs.Common.{◌≡◌, ◌-◌, false, length, replicate}
 use Rattle.std.specs.List.{range_with_len}
 use Rattle.waff_plan.specs.Awaiting.{awaited_by}
 use Rattle.waff_plan.specs.Timing.{work_of}

@@ -20,13 +20,13 @@ loop-n-preserved c =
     let named : client_of clients n ≡ c.as_str.result.now
     = client_is messages n ∙ ap (λ (x : Message). x.client) is ∙ sym c.as_str.ensures in
     let before : c.in_ok-follows.follows ≡ one_before clients n = c.in_ok-follows.ensures.before clients c.loop-n.invariant.last named in
-    let this : c.timing_after.result ≡ timing_at messages n
-    = c.timing_after.ensures ∙ ap (timing_after message) before ∙ sym (ap (λ (x : Message). timing_after x (one_before clients n)) is) in
+    let this : c.in_ok-timing.timing ≡ timing_at messages n
+    = c.in_ok-timing.ensures ∙ ap (timing_after message) before ∙ sym (ap (λ (x : Message). timing_after x (one_before clients n)) is) in
     let next : n - 1 + 1 ≡ n + 1 - 1 = omega (arith, c.loop-n.auto.n) in
     let back : n ≡ n + 1 - 1 = omega arith in
     record {
       last = subst (λ k. AreLast clients k c.note_last.new.last) back (c.in_ok-follows.ensures.last clients c.loop-n.invariant.last named);
-      each = c.push_reserved.ensures.items ∙ ap (λ xs. xs ++ c.timing_after.result ∷ []) c.loop-n.invariant.each
+      each = c.push_reserved.ensures.items ∙ ap (λ xs. xs ++ c.in_ok-timing.timing ∷ []) c.loop-n.invariant.each
           ∙ ap (λ (t : Timing). map (timing_at messages) (range_with_len 1 (n - 1)) ++ t ∷ []) this
           ∙ sym (map-range_with_len_more (timing_at messages) 1 (n - 1) n (omega (arith, c.loop-n.auto.n)))
           ∙ ap (λ k. map (timing_at messages) (range_with_len 1 k)) next;
@@ -42,6 +42,9 @@ returns-in_err-timings-clause-are c = are_timings c.args.trace.now c.len-message
 
 pub returns-in_err-follows-clause-are : goal.returns-in_err-follows-clause-are
 returns-in_err-follows-clause-are c = are_timings c.args.trace.now c.len-messages.ensures.trace
+
+pub returns-in_err-timing-clause-are : goal.returns-in_err-timing-clause-are
+returns-in_err-timing-clause-are c = are_timings c.args.trace.now c.len-messages.ensures.trace
 
 pub returns-clause-are : goal.returns-clause-are
 returns-clause-are c = are_timings c.args.trace.now c.len-messages.ensures.trace
