@@ -3,7 +3,7 @@ use Rattle.std.proofs.Common.{◌≡◌, ℕ, List, length, sym, ◌∙◌, ap}
 use Rattle.waff_model.specs.Tree.{Node}
 use Rattle.waff_model.specs.declared.message.Message.{Message}
 use Rattle.waff_model.specs.declared.message.Version.{Version}
-use Rattle.waff_model.specs.declared.message.Version.TheVariants.{V1, V2, V3}
+use Rattle.waff_model.specs.declared.message.Version.TheVariants.{V1, V2, V3, V4}
 use Rattle.waff_assign.specs.Order.{IsOrdered}
 use Rattle.waff_plan.specs.Obeys.{Obeys}
 use Rattle.waff_plan.specs.Serving.{served_before}
@@ -28,3 +28,5 @@ plan_obeys V1 rule tree assigned work k start plan = (busy_by_rule rule (IsOrder
 plan_obeys V2 rule tree assigned work k start plan = (busy_by_rule rule (IsOrdered tree assigned) work k start plan).within.obeys
 plan_obeys V3 Arrival tree assigned work k start plan = plan.within.obeys
 plan_obeys V3 Longest tree assigned work k start (tail, tails, plan) = plan.within.obeys
+plan_obeys V4 Arrival tree assigned work k start plan = plan.within.obeys
+plan_obeys V4 Longest tree assigned work k start (tail, tails, plan) = plan.within.obeys

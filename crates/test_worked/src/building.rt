@@ -8,7 +8,7 @@ use std::alloc::{AllocError, Global};
 use std::process::Abort;
 use waff_model::limits::{MAX_ALL_OPS, MAX_COST, MAX_OPS, MAX_RELEASE};
 use waff_model::{
-    AffinityId, Cell, Client, Format, Kind, Layout, LayoutError, MapSpec, Message, Op, Ops,
+    AffinityId, Awaits, Cell, Client, Format, Kind, Layout, LayoutError, MapSpec, Message, Op, Ops,
     SpaceSpec, Text, Texts, Trace, Tree, TreeBuilder, TreeError, Version, is_name,
 };
 
@@ -177,7 +177,7 @@ pub fn trace(
 fn opened(alloc: Global, layout: &Layout, version: Version) -> Result<Trace, AllocError> {
     match version {
         Version::V1 => Trace::new(alloc, layout),
-        Version::V2 | Version::V3 => Trace::with_version(alloc, layout, version),
+        Version::V2 | Version::V3 | Version::V4 => Trace::with_version(alloc, layout, version),
     }
 }
 
@@ -211,6 +211,7 @@ fn push(
         release,
         client: Client::none(),
         think: 0,
+        after: Awaits::none(),
         ops,
     };
     trace.push(message).expect(rt, "a message");

@@ -3,7 +3,7 @@ use Rattle.std.proofs.Common.{◌≡◌, ℕ, ◌+◌, ◌-◌, ◌<◌, ◌≤�
 use Rattle.std.proofs.lemmas.Bool.{cases_Bool, cond-false, cond-true, false≢true}
 use Rattle.waff_model.specs.Versions.{has_clients}
 use Rattle.waff_model.specs.declared.message.Version.{Version}
-use Rattle.waff_model.specs.declared.message.Version.TheVariants.{V1, V2, V3}
+use Rattle.waff_model.specs.declared.message.Version.TheVariants.{V1, V2, V3, V4}
 use Rattle.waff_plan.specs.Obeys.{AwaitsNone}
 use Rattle.waff_plan.specs.Order.{ComesBefore, key_of}
 use Rattle.waff_plan.specs.Work.{Work, IsAwaited, finish_of, issue_of}
@@ -23,11 +23,13 @@ pub key_with : (version : Version) (work : Work) (start : ℕ → ℕ) (n : ℕ)
 key_with V1 work start n has = absurd (false≢true has)
 key_with V2 work start n has = absurd (false≢true has)
 key_with V3 work start n has = refl
+key_with V4 work start n has = refl
 
 pub key_without : (version : Version) (work : Work) (start : ℕ → ℕ) (n : ℕ) → has_clients version ≡ false → key_of version work start n ≡ 0
 key_without V1 work start n none = refl
 key_without V2 work start n none = refl
 key_without V3 work start n none = absurd (false≢true (sym none))
+key_without V4 work start n none = absurd (false≢true (sym none))
 
 -- what has been issued keeps its key
 pub key_kept : (course : Course) (s t : State) → ((f : ℕ) → HasEnded s f → turn_of t f ≡ turn_of s f) → (n : ℕ) → IsIssued course s n

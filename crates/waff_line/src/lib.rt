@@ -10,8 +10,8 @@
 //! - `waiting`: which message to begin next, as a proposal; `dependents`: who waits for whom.
 //! - `event`: what happens to the machine of a run, by which the line goes; `laws`: what holds of it.
 //!
-//! All times are nanoseconds from the beginning of the run: releases and think times, which the trace has in ticks, are
-//! times when they are read. The line takes the greatest time that it was told, so that a clock that stands or goes back
+//! All times are nanoseconds from the beginning of the run: releases, think times and gaps, which the trace has in ticks,
+//! are times when they are read. The line takes the greatest time that it was told, so that a clock that stands or goes back
 //! changes nothing. A finish lies at least one nanosecond behind its start.
 //!
 //! A line is what the threads of a run share: it notes what was issued, began and ended. Its state

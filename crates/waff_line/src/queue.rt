@@ -22,6 +22,7 @@ use crate::order::Order;
 use std::alloc::{AllocError, Global};
 use std::cmp::Reverse;
 use waff_assign::Case;
+use waff_model::Await;
 use waff_model::limits::{MAX_COST, MAX_TICK, MAX_WORKERS};
 use waff_plan::awaiting::awaiting;
 use waff_plan::{Due, NEVER, Timing, timings};
@@ -30,7 +31,7 @@ use waff_waits::Waits;
 /// The most ticks of a run: its sums then fit into the text of a plan for as many workers as there can be.
 const MAX_RUN: u64 = MAX_TICK / MAX_WORKERS as u64;
 
-/// The most nanoseconds of a run, some 300 years. With a think time more they fit into 64 bits, however long ticks are.
+/// The most nanoseconds of a run, some 300 years. With a think time or a gap more they fit into 64 bits, however long ticks are.
 const MAX_TIME: u64 = 10_000_000_000_000_000_000;
 
 /// How the end of a message went.
@@ -251,13 +252,18 @@ fn issue(timings: &[Timing], tick: u32, notes: &Notes, m: u32) -> u64
     requires early { notes.now.0.clock ≤ MAX_TIME }
     ensures { result ≡ issue_noted (scaled tick (work_of timings.now)) notes.now.0 m }
 {
-    let timing = timings[m as usize - 1];
-    let floor = nanos(timing.floor, tick);
+    let timing = &timings[m as usize - 1];
+    let after = timing.after.as_slice();
+    let mut issue = nanos(timing.floor, tick);
+    for k in (0..after.len()).rev() {
+        let Await { message, gap } = after[k];
+        issue = issue.max(notes.turn(message).finish + nanos(gap, tick));
+    }
     if timing.follows == 0 {
-        return floor;
+        return issue;
     }
     let finish = notes.turn(timing.follows).finish;
-    floor.max(finish + nanos(timing.think, tick))
+    issue.max(finish + nanos(timing.think, tick))
 }
 
 /// The messages that await none are due at their releases.
@@ -267,8 +273,8 @@ fn first_due(alloc: Global, timings: &[Timing], tick: u32) -> Result<Due, AllocE
 {
     let mut issues = Vec::with_capacity(alloc, timings.len())?;
     for m in 1..timings.len() as u32 + 1 {
-        let timing = timings[m as usize - 1];
-        if timing.follows == 0 {
+        let timing = &timings[m as usize - 1];
+        if timing.is_alone() {
             issues.push_reserved(Reverse((nanos(timing.floor, tick), m)));
         }
     }

@@ -12,7 +12,7 @@ use Rattle.std.proofs.lemmas.Map.Steps.{length-le_from_distinct_below}
 use Rattle.std.proofs.lemmas.Map.Views.{Contains-from_any}
 use Rattle.waff_plan.specs.Due.{IsDueFirst}
 use Rattle.waff_plan.specs.Issues.{IsIssuedBefore}
-use Rattle.waff_plan.specs.Timing.{start_of, work_of}
+use Rattle.waff_plan.specs.Timing.{HasIssue, start_of, work_of}
 use Rattle.waff_plan.specs.Work.{Work, IsNumber, issue_of}
 use Rattle.waff_plan.specs.declared.due.TheConstants.{NEVER}
 use Rattle.waff_plan.proofs.IssueOrder.{issued_not_itself}
@@ -24,7 +24,6 @@ use Rattle.waff_waits.proofs.Waiting.{bound_entered, free_entered, waits_entered
 use Rattle.waff_list.specs.Issuing.{AreJoining}
 use Rattle.waff_list.specs.Plannable.{HaveFinishedBy}
 use Rattle.waff_list.specs.Planning.{AreIssuing, Fits, IsLearnt, IsNew, IsPlanned, IsWaiting}
-use Rattle.waff_list.specs.Tasks.{HasIssue}
 use Rattle.waff_list.specs.Telling.{basis_of, key_in, order_by, priority_in}
 use Rattle.waff_list.specs.declared.progress.Progress.{Progress}
 use Rattle.waff_list.specs.declared.service.Service.{Service}

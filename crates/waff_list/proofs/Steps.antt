@@ -5,7 +5,7 @@ use Rattle.std.proofs.lemmas.Bool.{cases_lt}
 use Rattle.std.proofs.lemmas.List.Elements.{All-contains, All-contains_itself, All-head, All-weaker}
 use Rattle.std.proofs.lemmas.List.Sorted.{All-permutation, Contains-permutation, IsPermutation-append_right, IsPermutation-map, IsPermutation-sym}
 use Rattle.waff_plan.specs.Due.{IsDueFirst, LeavesDue}
-use Rattle.waff_plan.specs.Timing.{start_of}
+use Rattle.waff_plan.specs.Timing.{HasIssue, start_of}
 use Rattle.waff_plan.specs.Work.{Work, IsNumber, finish_of, issue_of}
 use Rattle.waff_plan.specs.declared.due.TheConstants.{NEVER}
 use Rattle.waff_waits.specs.Ready.{AreRanked, ranked_in}
@@ -16,7 +16,6 @@ use Rattle.waff_list.specs.Issuing.{AreJoining}
 use Rattle.waff_list.specs.Orders.{IsServiceOrder}
 use Rattle.waff_list.specs.Plannable.{HaveFinishedBy}
 use Rattle.waff_list.specs.Planning.{AreIssuing, AreKnown, AreStarting, Fits, IsPlanned, IsWaiting, placed_in, plannable_of}
-use Rattle.waff_list.specs.Tasks.{HasIssue}
 use Rattle.waff_list.specs.Telling.{basis_of, key_in, order_by, priority_in}
 use Rattle.waff_list.specs.Waiting.{AreFinishes, AreManned, HaveFinished, Runs}
 use Rattle.waff_list.specs.declared.progress.Progress.{Progress}

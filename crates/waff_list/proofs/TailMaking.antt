@@ -4,9 +4,11 @@ use Rattle.std.proofs.Common.{◌≡◌, ◌≢◌, ℕ, ◌+◌, ◌-◌, ◌*�
 use Rattle.std.proofs.lemmas.Bool.{cases_eq, cases_lt, cases_order}
 use Rattle.std.proofs.lemmas.List.{length-set, take_more}
 use Rattle.std.proofs.lemmas.List.Elements.{Contains-append_left, Contains-push, Contains-push_cases}
+use Rattle.waff_model.specs.Numbers.{IsAmongFirst}
 use Rattle.waff_assign.specs.Order.{Relation}
-use Rattle.waff_plan.specs.Work.{Work, IsAwaited, IsNumber, gap_of}
+use Rattle.waff_plan.specs.Work.{Await, Work, IsAwaited, IsNumber, gap_after, gap_of}
 use Rattle.waff_plan.specs.Obeys.{AwaitsEarlier, IsEarlier}
+use Rattle.waff_plan.proofs.Holding.{gap_other, gap_same}
 use Rattle.waff_list.specs.ByIssue.{AreClientTails}
 use Rattle.waff_list.specs.Tails.{tail_of, IsBeforeNone, AreTails, AreRaised}
 
@@ -126,107 +128,173 @@ module _ (before : Relation) (work : Work) (gap : ℕ → ℕ → ℕ) (forward 
     pub tails_more : AreTailsAfter before work gap new (n - 1)
     tails_more = record { each = each_more; one = one_more; best = best_more; best_one = best_one_more; small = small_more }
 
--- the tail of one message more has been raised
-module _ (old new messages : List ℕ) (tail at : ℕ) (inside : at < length messages) (from : 1 ≤ get_or messages at 0) (to : get_or messages at 0 ≤ length new)
-    (h : AreRaised old (take at messages) tail new) where
-  abbrev x : ℕ
-  x = get_or messages at 0
+-- no message is raised
+pub raised_none : (old : List ℕ) (IsHeld : ℕ → Type 0) (gap : ℕ → ℕ) (tail : ℕ) → ((m : ℕ) → IsHeld m → ⊥) → AreRaised old IsHeld gap tail old
+raised_none old IsHeld gap tail none = record {
+  count = refl;
+  each = λ m held. absurd (none m held);
+  kept = λ m. omega arith;
+  one = λ m from. inl refl;
+}
 
+-- they are the same messages, with the same gaps
+pub raised_same : (old new : List ℕ) (IsHeld IsOther : ℕ → Type 0) (gap other : ℕ → ℕ) (tail : ℕ) → ((m : ℕ) → IsHeld m → IsOther m)
+    → ((m : ℕ) → IsOther m → IsHeld m) → ((m : ℕ) → other m ≡ gap m) → AreRaised old IsHeld gap tail new → AreRaised old IsOther other tail new
+raised_same old new IsHeld IsOther gap other tail into back same h = record {
+  count = h.count;
+  each = λ m held. omega (arith, h.each m (back m held), same m);
+  kept = h.kept;
+  one = λ m from. elim (h.one m from) [
+    | inl kept ↦ inl kept
+    | inr (held, is) ↦ inr (into m held, omega (arith, is, same m))
+  ];
+}
+
+-- the tail of one message more has been raised, which may have been before by another gap
+module _ (old new : List ℕ) (IsHeld IsMore : ℕ → Type 0) (gap wider : ℕ → ℕ) (tail x least most : ℕ) (number : IsAmongFirst (length new) x)
+    (into : (m : ℕ) → IsHeld m → IsMore m) (back : (m : ℕ) → IsMore m → IsHeld m ⊎ (m ≡ x)) (held : IsMore x)
+    (same : (m : ℕ) → m ≢ x → wider m ≡ gap m) (widest : wider x ≡ max (gap x) least) (known : IsHeld x ⊎ (gap x ≤ least))
+    (is : most ≡ least + tail) (h : AreRaised old IsHeld gap tail new) where
   abbrev after : List ℕ
-  after = set new (x - 1) (max (tail_of new x) tail)
+  after = set new (x - 1) (max (tail_of new x) most)
 
-  more : take (at + 1) messages ≡ take at messages ++ x ∷ []
-  more = take_more messages at 0 inside
-
-  here : tail_of after x ≡ max (tail_of new x) tail
-  here = get_or-set_same new (x - 1) (max (tail_of new x) tail) 0 (omega arith)
+  here : tail_of after x ≡ max (tail_of new x) most
+  here = get_or-set_same new (x - 1) (max (tail_of new x) most) 0 (omega (arith, number.from, number.to))
 
   there : (m : ℕ) → m - 1 ≢ x - 1 → tail_of after m ≡ tail_of new m
-  there m other = get_or-set_other new (x - 1) (m - 1) (max (tail_of new x) tail) 0 other
+  there m other = get_or-set_other new (x - 1) (m - 1) (max (tail_of new x) most) 0 other
 
   rises : (m : ℕ) → tail_of new m ≤ tail_of after m
   rises m = elim (cases_eq (m - 1) (x - 1)) [
-    | inl same ↦ subst (λ i. get_or new i 0 ≤ get_or after i 0) (sym same) (omega (arith, here))
+    | inl same_place ↦ subst (λ i. get_or new i 0 ≤ get_or after i 0) (sym same_place) (omega (arith, here))
     | inr other ↦ omega (arith, there m other)
   ]
 
-  raised : (m : ℕ) → Contains (take (at + 1) messages) m → tail ≤ tail_of after m
-  raised m listed = elim (Contains-push_cases (take at messages) x m (subst (λ xs. Contains xs m) more listed)) [
-    | inl was ↦ omega (arith, h.each m was, rises m)
-    | inr is ↦ subst (λ y. tail ≤ tail_of after y) is (omega (arith, here))
+  each_here : wider x + tail ≤ tail_of after x
+  each_here = elim known [
+    | inl was ↦ omega (arith, h.each x was, here, widest, is)
+    | inr less ↦ omega (arith, less, here, widest, is)
   ]
 
-  listed_here : Contains (take (at + 1) messages) x
-  listed_here = subst (λ xs. Contains xs x) (sym more) (Contains-push (take at messages) x)
-
-  listed_more : (m : ℕ) → Contains (take at messages) m → Contains (take (at + 1) messages) m
-  listed_more m was = subst (λ xs. Contains xs m) (sym more) (Contains-append_left (take at messages) (x ∷ []) m was)
-
-  one_was : (m : ℕ) → tail_of after m ≡ tail_of new m → (tail_of new m ≡ tail_of old m) ⊎ (Contains (take at messages) m × (tail_of new m ≡ tail))
-      → (tail_of after m ≡ tail_of old m) ⊎ (Contains (take (at + 1) messages) m × (tail_of after m ≡ tail))
-  one_was m is (inl kept) = inl (is ∙ kept)
-  one_was m is (inr (was, raised_was)) = inr (listed_more m was, is ∙ raised_was)
-
-  one : (m : ℕ) → 1 ≤ m → (tail_of after m ≡ tail_of old m) ⊎ (Contains (take (at + 1) messages) m × (tail_of after m ≡ tail))
-  one m m_from = elim (cases_eq m x) [
-    | inl same ↦ subst (λ y. (tail_of after y ≡ tail_of old y) ⊎ (Contains (take (at + 1) messages) y × (tail_of after y ≡ tail))) (sym same) (elim (cases_lt (tail_of new x) tail) [
-      | inl less ↦ inr (listed_here, omega (arith, here))
-      | inr least ↦ one_was x (omega (arith, here)) (h.one x from)
-    ])
-    | inr other ↦ one_was m (there m (omega arith)) (h.one m m_from)
+  each : (m : ℕ) → IsMore m → wider m + tail ≤ tail_of after m
+  each m more = elim (cases_eq m x) [
+    | inl is_x ↦ subst (λ y. wider y + tail ≤ tail_of after y) (sym is_x) each_here
+    | inr other ↦ elim (back m more) [
+      | inl was ↦ omega (arith, h.each m was, rises m, same m other)
+      | inr is_x ↦ absurd (other is_x)
+    ]
   ]
 
-  pub raised_more : AreRaised old (take (at + 1) messages) tail (set new (get_or messages at 0 - 1) (max (get_or new (get_or messages at 0 - 1) 0) tail))
+  raised_here : (tail_of after x ≡ tail_of old x) ⊎ (IsMore x × (tail_of after x ≡ wider x + tail))
+  raised_here = elim (cases_lt (tail_of new x) most) [
+    | inl less ↦ elim known [
+      | inl was ↦ inr (held, omega (arith, less, here, widest, is, h.each x was))
+      | inr short ↦ inr (held, omega (arith, less, here, widest, is, short))
+    ]
+    | inr enough ↦ elim (h.one x number.from) [
+      | inl kept ↦ inl (omega (arith, here, enough, kept))
+      | inr (_, raised) ↦ inr (held, omega (arith, here, enough, raised, widest, is))
+    ]
+  ]
+
+  one : (m : ℕ) → 1 ≤ m → (tail_of after m ≡ tail_of old m) ⊎ (IsMore m × (tail_of after m ≡ wider m + tail))
+  one m from = elim (cases_eq m x) [
+    | inl is_x ↦ subst (λ y. (tail_of after y ≡ tail_of old y) ⊎ (IsMore y × (tail_of after y ≡ wider y + tail))) (sym is_x) raised_here
+    | inr other ↦
+        let still = there m (omega (arith, from, number.from, other)) in
+        elim (h.one m from) [
+          | inl kept ↦ inl (still ∙ kept)
+          | inr (was, raised) ↦ inr (into m was, omega (arith, still, raised, same m other))
+        ]
+  ]
+
+  pub raised_more : AreRaised old IsMore wider tail (set new (x - 1) (max (tail_of new x) most))
   raised_more = record {
-    count = length-set new (x - 1) (max (tail_of new x) tail) ∙ h.count;
-    each = raised;
+    count = length-set new (x - 1) (max (tail_of new x) most) ∙ h.count;
+    each = each;
     kept = λ m. omega (arith, h.kept m, rises m);
     one = one;
   }
 
+-- of messages that are listed one more
+module _ (old new messages : List ℕ) (tail at : ℕ) (inside : at < length messages) (number : IsAmongFirst (length new) (get_or messages at 0))
+    (h : AreRaised old (Contains (take at messages)) (λ m. 0) tail new) where
+  abbrev next : ℕ
+  next = get_or messages at 0
+
+  more : take (at + 1) messages ≡ take at messages ++ next ∷ []
+  more = take_more messages at 0 inside
+
+  back : (m : ℕ) → Contains (take (at + 1) messages) m → Contains (take at messages) m ⊎ (m ≡ next)
+  back m listed = elim (Contains-push_cases (take at messages) next m (subst (λ xs. Contains xs m) more listed)) [
+    | inl was ↦ inl was
+    | inr is ↦ inr (sym is)
+  ]
+
+  pub raised_listed : AreRaised old (Contains (take (at + 1) messages)) (λ m. 0) tail (set new (get_or messages at 0 - 1) (max (tail_of new (get_or messages at 0)) tail))
+  raised_listed =
+      raised_more old new (Contains (take at messages)) (Contains (take (at + 1) messages)) (λ m. 0) (λ m. 0) tail next 0 tail number
+      (λ m was. subst (λ xs. Contains xs m) (sym more) (Contains-append_left (take at messages) (next ∷ []) m was))
+      back (subst (λ xs. Contains xs next) (sym more) (Contains-push (take at messages) next))
+      (λ m other. refl) (omega arith) (inr (omega arith)) (omega arith) h
+
+-- a message that is not awaited is so with no gap
+awaited_or_none : (awaits : List Await) (m : ℕ) → IsAwaited awaits m ⊎ (gap_after m awaits ≡ 0)
+awaited_or_none [] m = inr refl
+awaited_or_none (a ∷ rest) m = elim (cases_eq a.message m) [
+  | inl same ↦ inl (inl same)
+  | inr other ↦ elim (awaited_or_none rest m) [
+    | inl awaited ↦ inl (inr awaited)
+    | inr none ↦ inr (omega (arith, none, gap_other a m other))
+  ]
+]
+
+-- of messages that are awaited one more, with its gap
+pub raised_awaited : (old new : List ℕ) (a : Await) (rest : List Await) (tail most : ℕ) → IsAmongFirst (length new) a.message → most ≡ a.gap + tail
+    → AreRaised old (IsAwaited rest) (λ m. gap_after m rest) tail new
+    → AreRaised old (IsAwaited (a ∷ rest)) (λ m. gap_after m (a ∷ rest)) tail (set new (a.message - 1) (max (tail_of new a.message) most))
+raised_awaited old new a rest tail most number is h =
+    raised_more old new (IsAwaited rest) (IsAwaited (a ∷ rest)) (λ m. gap_after m rest) (λ m. gap_after m (a ∷ rest)) tail a.message a.gap most number
+    (λ m was. inr was) back (inl refl) (λ m other. omega (arith, gap_other a m (λ same. other (sym same)))) (omega (arith, gap_same a a.message refl))
+    (elim (awaited_or_none rest a.message) [ inl awaited ↦ inl awaited | inr none ↦ inr (omega (arith, none)) ]) is h
+  where
+    back : (m : ℕ) → IsAwaited (a ∷ rest) m → IsAwaited rest m ⊎ (m ≡ a.message)
+    back m (inl same) = inr (sym same)
+    back m (inr more) = inl more
+
 -- a message that has its cost, and the messages that it holds back raised to what then hangs on it, has had its turn
 module _ (before : Relation) (work : Work) (gap : ℕ → ℕ → ℕ) (forward : (i j : ℕ) → before i j → IsEarlier work i j)
-    (old new raised : List ℕ) (n tail most : ℕ) (from : 1 ≤ n) (to : n ≤ length old) (sum : tail ≡ tail_of old n + work.cost n)
-    (listed : (m : ℕ) → before m n → Contains raised m × (gap m n + tail ≡ most)) (only : (m : ℕ) → Contains raised m → before m n)
-    (h : AreRaised (set old (n - 1) tail) raised most new) where
+    (old new : List ℕ) (n tail : ℕ) (number : IsAmongFirst (length old) n) (sum : tail ≡ tail_of old n + work.cost n)
+    (h : AreRaised (set old (n - 1) tail) (λ m. before m n) (λ m. gap m n) tail new) where
   set_here : tail_of (set old (n - 1) tail) n ≡ tail
-  set_here = get_or-set_same old (n - 1) tail 0 (omega arith)
+  set_here = get_or-set_same old (n - 1) tail 0 (omega (arith, number.from, number.to))
 
   set_other : (m : ℕ) → 1 ≤ m → m ≢ n → tail_of (set old (n - 1) tail) m ≡ tail_of old m
-  set_other m m_from other = get_or-set_other old (n - 1) (m - 1) tail 0 (omega (arith, m_from, from, other))
+  set_other m m_from other = get_or-set_other old (n - 1) (m - 1) tail 0 (omega (arith, m_from, number.from, other))
 
   tail_is : tail_of new n ≡ tail
-  tail_is = elim (h.one n from) [
+  tail_is = elim (h.one n number.from) [
     | inl kept ↦ kept ∙ set_here
-    | inr (there, _) ↦ absurd (omega (arith, (forward n n (only n there)).earlier))
+    | inr (pair, _) ↦ absurd (omega (arith, (forward n n pair).earlier))
   ]
 
   is_later : (m : ℕ) → n < m → tail_of new m ≡ tail_of old m
-  is_later m after = elim (h.one m (omega arith)) [
-    | inl kept ↦ kept ∙ set_other m (omega arith) (omega arith)
-    | inr (there, _) ↦ absurd (omega (arith, after, (forward m n (only m there)).earlier))
+  is_later m after = elim (h.one m (omega (arith, after))) [
+    | inl kept ↦ kept ∙ set_other m (omega (arith, after)) (omega (arith, after))
+    | inr (pair, _) ↦ absurd (omega (arith, after, (forward m n pair).earlier))
   ]
 
   pub takes_turn : TakesTurn before work gap (tail_of old) (tail_of new) n
   takes_turn = record {
     here = tail_is ∙ sum;
     later = is_later;
-    each = λ m pair. let there = listed m pair in omega (arith, h.each m there.0, there.1, tail_is);
+    each = λ m pair. omega (arith, h.each m pair, tail_is);
     kept = λ m m_from early. rw (set_other m m_from (omega (arith, early))) at (h.kept m);
     one = λ m m_from early. elim (h.one m m_from) [
       | inl kept ↦ inl (kept ∙ set_other m m_from (omega (arith, early)))
-      | inr (there, is) ↦ let pair = only m there in inr (pair, omega (arith, is, (listed m pair).1, tail_is))
+      | inr (pair, is) ↦ inr (pair, omega (arith, is, tail_is))
     ];
   }
-
--- no message is raised
-pub raised_none : (old : List ℕ) (most : ℕ) → AreRaised old [] most old
-raised_none old most = record {
-  count = refl;
-  each = λ m there. absurd (omega (arith, there.1));
-  kept = λ m. omega arith;
-  one = λ m from. inl refl;
-}
 
 -- all have had their turns: over needs, with no gaps
 pub tails_over : (before : Relation) (work : Work) → ((i j : ℕ) → before i j → IsEarlier work i j)

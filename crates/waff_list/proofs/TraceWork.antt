@@ -4,10 +4,11 @@ use Rattle.waff_model.specs.declared.message.Message.{Message}
 use Rattle.waff_model.specs.Messages.{Arrivals, IsTrace}
 use Rattle.waff_plan.specs.Work.{Work}
 use Rattle.waff_plan.specs.Obeys.{IsEarlier}
-use Rattle.waff_plan.proofs.FollowLemmas.{gap_within}
+use Rattle.waff_plan.proofs.FollowLemmas.{gap_limit}
 use Rattle.waff_plan.proofs.TimingLemmas.{are_timings, length-timings_of}
 use Rattle.waff_plan.specs.Timing.{IsTiming, no_timing, timing_of, work_of}
 use Rattle.waff_plan.specs.Timetable.{timings_of}
+use Rattle.waff_plan.specs.declared.timing.Awaited.TheVariants.{Every}
 use Rattle.waff_plan.specs.declared.timing.Timing.{Timing}
 use Rattle.waff_order.specs.Needs.{IsNeed, AreLists}
 use Rattle.waff_order.proofs.NeedLemmas.{need_within}
@@ -22,10 +23,7 @@ small_timings timings small = record {
   some_cost = λ m number. let t = small (m - 1) no_timing (omega (arith, number.from, number.to)) in t.some_cost;
   cost = λ m number. let t = small (m - 1) no_timing (omega (arith, number.from, number.to)) in t.cost;
   floor = λ m number. let t = small (m - 1) no_timing (omega (arith, number.from, number.to)) in t.floor;
-  gap = λ i m number.
-      let t = small (m - 1) no_timing (omega (arith, number.from, number.to)) in
-      let at = timing_of timings m in
-      omega (arith, gap_within at.follows at.think i, t.think);
+  gap = λ i m number. gap_limit Every (timing_of timings m) i (small (m - 1) no_timing (omega (arith, number.from, number.to)));
 }
 
 -- the messages of a trace are small

@@ -21,7 +21,7 @@ IsServiceFor (ByNumber needs) version count =
     (length needs.now ≡ count) × AreLists needs.now × (has_clients version ≡ false)
 IsServiceFor (ByIssue issues) version count = length issues.case.assigned.now ≡ count
 
--- the tails of messages: over their needs, or by their clients
+-- the tails of messages: over their needs, or over those that await them
 abbrev pub AreTailsBy : Basis → Work → (ℕ → ℕ) → Type 0
 AreTailsBy (of_needs needs) work tail = AreTails (IsNeed needs) work tail
 AreTailsBy (of_tree tree spans assigned) work tail = AreClientTails work tail

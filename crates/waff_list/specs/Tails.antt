@@ -1,6 +1,6 @@
 -- The tail of a message: the ticks of work that hang on it, along the costliest chain that begins
 -- with it.
-use Rattle.std.specs.Prelude.{◌≡◌, ℕ, ◌+◌, ◌-◌, ◌≤◌, ◌⊎◌, ◌↔◌, List, ◌∷◌, length, Contains}
+use Rattle.std.specs.Prelude.{◌≡◌, ℕ, ◌+◌, ◌-◌, ◌≤◌, ◌⊎◌, ◌↔◌, List, ◌∷◌, length}
 use Rattle.std.specs.Prelude.{slice_index}
 use Rattle.waff_assign.specs.Order.{Relation}
 use Rattle.waff_plan.specs.Work.{Work, IsNumber}
@@ -46,10 +46,12 @@ abbrev pub TailsAreShared : Relation → Relation → Work → Type 0
 TailsAreShared near before work =
     HaveSamePaths near before → (tail : ℕ → ℕ) → AreTails near work tail ↔ AreTails before work tail
 
--- each of these messages has at least this tail, and what has changed is this tail
-pub record AreRaised (old raised : List ℕ) (tail : ℕ) (new : List ℕ) : Type 0 where
+-- the tail of each message that is held back is raised to its gap and this tail at least; what has changed
+-- is that
+pub record AreRaised (old : List ℕ) (IsHeld : ℕ → Type 0) (gap : ℕ → ℕ) (tail : ℕ) (new : List ℕ)
+    : Type 0 where
   pub count : length new ≡ length old
-  pub each : (m : ℕ) → Contains raised m → tail ≤ tail_of new m
+  pub each : (m : ℕ) → IsHeld m → gap m + tail ≤ tail_of new m
   pub kept : (m : ℕ) → tail_of old m ≤ tail_of new m
   pub one : (m : ℕ) → 1 ≤ m → (tail_of new m ≡ tail_of old m)
-      ⊎ (Contains raised m × (tail_of new m ≡ tail))
+      ⊎ (IsHeld m × (tail_of new m ≡ gap m + tail))

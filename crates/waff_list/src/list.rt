@@ -36,7 +36,7 @@ use waff_plan::{Chain, Plan};
 
 /// The plan for k workers by this rule: whenever a worker is free and messages are ready, the one that the
 /// rule takes first starts. Of two messages that exclude each other the one that comes first in the trace is
-/// served first, and in a trace of the third version the one that is issued first. Of the messages that
+/// served first, and in a trace with clients the one that is issued first. Of the messages that
 /// start at a tick the one of the lowest number takes the least worker that is free.
 pub fn list_plan_of(alloc: Global, case: Case, rule: Rule, k: u32) -> Result<WorkerPlan, AllocError>
     requires workers { IsWorkers k }

@@ -5,18 +5,17 @@ ghost use Rattle.std.specs.Prelude.{replicate, slice_set, All, Contains, IfOk, I
 ghost use Rattle.waff_model.specs.Numbers.{IsAmongFirst};
 ghost use Rattle.waff_plan.specs.Awaiting.{AreAwaiting};
 ghost use Rattle.waff_plan.specs.Pending.{AreFirst};
-ghost use Rattle.waff_plan.specs.Timing.{start_of, work_of};
+ghost use Rattle.waff_plan.specs.Timing.{HasIssue, start_of, work_of};
 ghost use Rattle.waff_plan.specs.Work.{issue_of};
 ghost use Rattle.waff_waits.specs.Times.{AreEach};
 ghost use Rattle.waff_list.specs.Issuing.{AreOpened, IsOpened, after_start};
 ghost use Rattle.waff_list.specs.Planning.{IsStarted};
-ghost use Rattle.waff_list.specs.Tasks.{HasIssue};
 
 use crate::idle::Idle;
 use crate::task::Task;
 use std::alloc::{AllocError, Global};
 use waff_plan::awaiting::{awaiting, first_issues};
-use waff_plan::{Due, NEVER};
+use waff_plan::{Due, NEVER, issue};
 use waff_waits::Waits;
 
 /// The messages that are placed so far, and what is due.
@@ -127,8 +126,7 @@ fn admit(
 {
     while let Some((next, is_open)) = awaits.let_go(m) {
         if is_open {
-            let issue = task.issue(starts, next);
-            issues.push(issue, next)?;
+            issues.push(issue(task.timings.as_slice(), starts, next), next)?;
         }
     }
     awaits.finish(m);

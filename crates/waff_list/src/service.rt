@@ -2,10 +2,9 @@
 //! which they are issued.
 
 ghost use Rattle.std.specs.Prelude.{◌≡◌, ◌↔◌, ℕ, List, length, IfOk, IsTrue, OnOk};
-ghost use Rattle.waff_plan.specs.Timing.{start_of, work_of};
+ghost use Rattle.waff_plan.specs.Timing.{HasIssue, start_of, work_of};
 ghost use Rattle.waff_waits.specs.Waits.{WaitsForNone};
 ghost use Rattle.waff_list.specs.Planning.{AreJoined, AreKnown, Fits, IsLearnt, IsNew};
-ghost use Rattle.waff_list.specs.Tasks.{HasIssue};
 ghost use Rattle.waff_list.specs.Telling.{basis_of, key_in};
 ghost use Rattle.waff_list.specs.declared.service.Service.TheVariants.{ByIssue};
 
@@ -13,6 +12,7 @@ use crate::issued::Issued;
 use crate::task::Task;
 use std::alloc::AllocError;
 use waff_order::Needs;
+use waff_plan::issue;
 use waff_waits::Waits;
 
 /// The order of service, with the needs of messages.
@@ -56,7 +56,7 @@ impl<'a> Service<'a> {
     {
         match self {
             Service::ByNumber(_) => 0,
-            Service::ByIssue(_) => task.issue(starts, m),
+            Service::ByIssue(_) => issue(task.timings.as_slice(), starts, m),
         }
     }
 }

@@ -6,10 +6,9 @@ ghost use Rattle.waff_model.specs.Numbers.{IsAmongFirst};
 ghost use Rattle.waff_model.specs.declared.limits.TheConstants.{MAX_MESSAGES};
 ghost use Rattle.waff_plan.specs.Bound.{IsWorkers};
 ghost use Rattle.waff_plan.specs.Obeys.{AwaitsEarlier};
-ghost use Rattle.waff_plan.specs.Timing.{IsTiming, start_of, timing_of, work_of};
-ghost use Rattle.waff_plan.specs.Work.{issue_of};
+ghost use Rattle.waff_plan.specs.Timing.{IsTiming, timing_of, work_of};
 ghost use Rattle.waff_plan.specs.Timetable.{AreTimings, timings_of, work_of_messages};
-ghost use Rattle.waff_list.specs.Tasks.{HasIssue, tail_in};
+ghost use Rattle.waff_list.specs.Tasks.{tail_in};
 
 use crate::rule::Rule;
 use crate::service::Service;
@@ -90,22 +89,6 @@ impl Task {
         ensures small { result < 2 ^ 32 }
     {
         u64::from(self.timings[m as usize - 1].cost)
-    }
-
-    /// The tick at which message `m` is issued, where the one that it follows starts as listed.
-    pub fn issue(&self, starts: &[u64], m: u32) -> u64
-        requires { HasIssue self.now.timings.items starts.now m }
-        ensures { result ≡ issue_of (work_of self.now.timings.items) (start_of starts.now) m }
-    {
-        let timing = self.timings[m as usize - 1];
-        let floor = u64::from(timing.floor);
-        match timing.follows {
-            0 => floor,
-            before => {
-                let finish = starts[before as usize - 1] + self.cost(before);
-                floor.max(finish + u64::from(timing.think))
-            }
-        }
     }
 
     /// The timings of the messages.

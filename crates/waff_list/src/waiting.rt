@@ -4,14 +4,13 @@ ghost use Rattle.std.specs.Prelude.{◌≡◌, ℕ, ◌+◌, ◌-◌, ◌^◌, �
 ghost use Rattle.std.specs.Prelude.{length, true, All, Contains, IfOk, OnOk, slice_set};
 ghost use Rattle.std.specs.List.Sorted.{IsPermutation};
 ghost use Rattle.waff_plan.specs.Due.{IsDueFirst};
-ghost use Rattle.waff_plan.specs.Timing.{start_of, work_of};
+ghost use Rattle.waff_plan.specs.Timing.{HasIssue, start_of, work_of};
 ghost use Rattle.waff_plan.specs.Work.{IsNumber, issue_of};
 ghost use Rattle.waff_plan.specs.declared.due.TheConstants.{NEVER};
 ghost use Rattle.waff_waits.specs.Ready.{AreRanked, ranked_in};
 ghost use Rattle.waff_waits.specs.Times.{AreEach};
 ghost use Rattle.waff_waits.specs.Waits.{IsFree, waiting_for};
 ghost use Rattle.waff_list.specs.Planning.{AreIssuing, Fits, IsFresh, IsNoneIssued, IsPlanned};
-ghost use Rattle.waff_list.specs.Tasks.{HasIssue};
 ghost use Rattle.waff_list.specs.Telling.{basis_of, key_in, priority_in};
 
 use crate::progress::Progress;

@@ -3,7 +3,7 @@ use Rattle.std.proofs.lemmas.Bool.{false≢true}
 use Rattle.waff_model.specs.Tree.{Node}
 use Rattle.waff_model.specs.Versions.{has_clients}
 use Rattle.waff_model.specs.declared.message.Version.{Version}
-use Rattle.waff_model.specs.declared.message.Version.TheVariants.{V1, V2, V3}
+use Rattle.waff_model.specs.declared.message.Version.TheVariants.{V1, V2, V3, V4}
 use Rattle.waff_assign.specs.Order.{IsOrdered}
 use Rattle.waff_plan.specs.Timetable.{starts_in, work_in}
 use Rattle.waff_plan.specs.Work.{Work}
@@ -23,6 +23,7 @@ served : (version : Version) (rule : Rule) (tree : List Node) (assigned : List �
 served V1 rule tree assigned work k start without plan = plan
 served V2 rule tree assigned work k start without plan = plan
 served V3 rule tree assigned work k start without plan = absurd (false≢true (sym without))
+served V4 rule tree assigned work k start without plan = absurd (false≢true (sym without))
 
 pub plan_served-requires : goal.plan_served-requires
 plan_served-requires c =

@@ -5,7 +5,7 @@ use Rattle.std.proofs.lemmas.List.{get_or_read}
 use Rattle.std.proofs.lemmas.List.Elements.{All-contains, All-contains_itself, All-weaker}
 use Rattle.std.proofs.lemmas.List.Sorted.{Contains-permutation, IsPermutation-sym, length_permutation}
 use Rattle.waff_model.specs.Numbers.{IsAmongFirst}
-use Rattle.waff_plan.specs.Timing.{start_of, work_of}
+use Rattle.waff_plan.specs.Timing.{HasIssue, start_of, work_of}
 use Rattle.waff_plan.specs.Work.{IsNumber}
 use Rattle.waff_waits.specs.Ready.{AreRanked}
 use Rattle.waff_waits.specs.Waits.{AreWaits, HasFinished, WhoWaits, waiting_for}
@@ -13,7 +13,6 @@ use Rattle.waff_waits.proofs.Each.{contains_first, contains_more, contains_rest_
 use Rattle.waff_waits.proofs.Waiting.{finish_less, finished_here, finished_there, waits_finished}
 use Rattle.waff_list.specs.Planning.{AreStarting}
 use Rattle.waff_list.specs.Seating.{worker_of}
-use Rattle.waff_list.specs.Tasks.{HasIssue}
 use Rattle.waff_list.specs.Telling.{key_in, priority_in}
 use Rattle.waff_list.specs.Waiting.{Runs}
 use Rattle.waff_list.specs.declared.progress.Progress.{Progress}

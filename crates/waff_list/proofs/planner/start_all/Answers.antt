@@ -1,7 +1,7 @@
 use Rattle.std.proofs.Common.{◌≡◌, ℕ, suc, ◌+◌, ◌-◌, ◌<◌, ◌≤◌, ◌⊎◌, inl, inr, List, [], ◌∷◌, ◌++◌, length, get_or, set, arith, length-set, refl, sym, ◌∙◌, ap, subst}
 use Rattle.std.proofs.lemmas.List.{get_or_read, nil_from_length}
 use Rattle.std.proofs.lemmas.List.Sorted.{IsNonDecreasingBy-from_sort, length_permutation}
-use Rattle.waff_plan.specs.Timing.{start_of, work_of}
+use Rattle.waff_plan.specs.Timing.{HasIssue, start_of, work_of}
 use Rattle.waff_plan.specs.Work.{IsNumber}
 use Rattle.waff_plan.proofs.AwaitingLemmas.{waits_count}
 use Rattle.waff_list.specs.Issuing.{AreOpened, IsOpened}
@@ -11,7 +11,6 @@ use Rattle.waff_list.specs.Plannable.{Plannable}
 use Rattle.waff_list.specs.Planning.{IsStarted, placed_in, plannable_of}
 use Rattle.waff_waits.specs.Ready.{ranked_in}
 use Rattle.waff_waits.specs.Waits.{WhoWaits}
-use Rattle.waff_list.specs.Tasks.{HasIssue}
 use Rattle.waff_list.specs.Telling.{basis_of, key_in, priority_in}
 use Rattle.waff_list.proofs.ClientTasks.{has_issue, small_of}
 use Rattle.waff_list.proofs.Filling.{IsStartedTo, started_all, started_filled, started_more, started_none, started_number, started_opens, started_placed}

@@ -5,8 +5,9 @@ use Rattle.std.proofs.lemmas.List.{set-get_or}
 use Rattle.std.proofs.lemmas.List.Elements.{All-cons, All-nil}
 use Rattle.std.proofs.lemmas.List.Sorted.{IsPermutation-cons, IsPermutation-refl, IsPermutation-trans}
 use Rattle.waff_model.specs.Numbers.{IsAmongFirst}
-use Rattle.waff_plan.specs.Timing.{start_of, work_of}
+use Rattle.waff_plan.specs.Timing.{HasIssue, start_of, work_of}
 use Rattle.waff_plan.specs.Work.{issue_of}
+use Rattle.waff_plan.specs.declared.timing.Timing.{Timing}
 use Rattle.waff_waits.specs.Times.{AreEach}
 use Rattle.waff_waits.specs.Waits.{IsFree, WhoWaits, waiting_for}
 use Rattle.waff_waits.proofs.Each.{none_there}
@@ -42,16 +43,17 @@ waited : (c : In-Some) → Contains (waiting_for c.args.awaits.now c.args.m) c.i
 waited c =
     it_waited c.args.awaits.now c.loop-next.awaits c.let_go.new.self c.args.m c.in-Some.next c.loop-next.invariant.rest (number c) c.loop-next.invariant.going c.in-Some.ensures.goes
 
-pub issue-issue-requires : goal.issue-issue-requires
-issue-issue-requires c =
-    let f = (goal.at.issue-issue-requires c).In-Some in
+pub issue-requires : goal.issue-requires
+issue-requires c =
+    let f = (goal.at.issue-requires c).In-Some in
     let w = c.args.awaits.now in
     let h = c.loop-next.invariant in
     let m = c.args.m in
     let d = c.in-Some.next in
     let goes = c.in-Some.ensures.goes in
     let going = going_next w c.loop-next.awaits c.let_go.new.self m d h.rest (number f) h.going goes in
-    c.requires.issued d (waited f, going_none w c.let_go.new.self m d goes.rest (number f) going (c.in-Some.ensures.none.0 c.if-is_open.true))
+    subst (λ (ts : List Timing). HasIssue ts c.args.starts.now d) (sym c.as_slice.ensures.value)
+    (c.requires.issued d (waited f, going_none w c.let_go.new.self m d goes.rest (number f) going (c.in-Some.ensures.none.0 c.if-is_open.true)))
 
 pub loop-next-preserved-in-Continue-1 : goal.loop-next-preserved-in-Continue-1
 loop-next-preserved-in-Continue-1 c =
@@ -64,14 +66,16 @@ loop-next-preserved-in-Continue-1 c =
     let d = c.in-Some.next in
     let goes = c.in-Some.ensures.goes in
     let names : List ℕ = map (λ (r : ℕ × ℕ). r.1) h.opened in
-    let one : ℕ × ℕ = (c.issue-issue.result, d) in
+    let one : ℕ × ℕ = (c.issue.result, d) in
+    let issue : issue_of (work_of c.args.task.now.timings.items) (start_of c.args.starts.now) d ≡ c.issue.result
+    = sym (c.issue.ensures ∙ ap (λ (ts : List Timing). issue_of (work_of ts) (start_of c.args.starts.now) d) c.as_slice.ensures.value) in
     record {
       rest = goes.rest;
       going = going_next w now new m d h.rest (number f) h.going goes;
       opened = one ∷ h.opened;
       each = going_free w now new m d h.rest (number f) h.going goes (waiting_for w m) [] names (waited f) h.each (d ∷ names) (IsPermutation-refl (d ∷ names))
           (c.in-Some.ensures.none.0 c.if-is_open.true);
-      ticks = All-cons (λ (r : ℕ × ℕ). issue_of (work_of c.args.task.now.timings.items) (start_of c.args.starts.now) r.1 ≡ r.0) one h.opened (sym c.issue-issue.ensures) h.ticks;
+      ticks = All-cons (λ (r : ℕ × ℕ). issue_of (work_of c.args.task.now.timings.items) (start_of c.args.starts.now) r.1 ≡ r.0) one h.opened issue h.ticks;
       issues = IsPermutation-trans (one ∷ (h.opened ++ c.args.issues.now)) (one ∷ c.loop-next.issues) c.push.new.self
           (IsPermutation-cons one (h.opened ++ c.args.issues.now) c.loop-next.issues h.issues) c.in_ok-push.ensures;
     }

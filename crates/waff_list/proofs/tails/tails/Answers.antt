@@ -1,18 +1,17 @@
-use Rattle.std.proofs.Common.{◌≡◌, ℕ, ◌+◌, ◌-◌, ◌≤◌, List, [], ◌∷◌, ◌++◌, length, get_or, replicate, set, take, drop, Contains, arith, inl, inr, sym, ◌∙◌, ap, subst, rules}
+use Rattle.std.proofs.Common.{◌≡◌, ℕ, ◌+◌, ◌-◌, ◌≤◌, List, ◌++◌, length, get_or, replicate, set, take, drop, Contains, arith, inl, inr, sym, ◌∙◌, ap, subst, rules}
 use Rattle.std.proofs.lemmas.Bool.{cases_lt}
 use Rattle.std.proofs.lemmas.List.{get_or-replicate, get_or_past, length-replicate, get_or_read, length-set, take_all, drop_all, append-nil}
-use Rattle.std.proofs.lemmas.List.Elements.{All-cons, All-nil, Contains-get_or}
+use Rattle.std.proofs.lemmas.List.Elements.{Contains-get_or}
 use Rattle.waff_model.specs.Numbers.{IsAmongFirst}
-use Rattle.waff_plan.specs.Timing.{timing_of, work_of}
+use Rattle.waff_plan.specs.Timing.{awaits_by, no_timing, timing_of, work_of}
+use Rattle.waff_plan.specs.Work.{IsAwaited, gap_after}
+use Rattle.waff_plan.specs.declared.timing.Awaited.TheVariants.{Every}
 use Rattle.waff_plan.specs.declared.timing.Timing.{Timing}
-use Rattle.waff_plan.proofs.FollowLemmas.{awaits_it, awaits_none, awaits_one}
-use Rattle.waff_order.specs.Needs.{needs_of}
 use Rattle.waff_list.specs.Tails.{AreRaised, tail_of}
 use Rattle.waff_list.specs.Planning.{Fits}
-use Rattle.waff_list.specs.declared.service.Service.TheVariants.{ByIssue}
+use Rattle.waff_list.specs.Telling.{basis_of}
 use Rattle.waff_list.proofs.Orders.{needs_inside}
-use Rattle.waff_list.proofs.TailMaking.{raised_none}
-use Rattle.waff_list.proofs.TailOrders.{HoldsThese, holds_followed, holds_needs, holds_none, tails_begin, tails_by, tails_step}
+use Rattle.waff_list.proofs.TailOrders.{gap_by, holds_by, raised_needs, tails_begin, tails_by, tails_step}
 use Rattle.waff_list.proofs.tails.tails.Goals as goal
 
 -- a vector whose elements have all been written anew
@@ -48,51 +47,36 @@ raise-requires c = λ k d within.
     let long : length c.deref_mut.result.now ≡ length c.loop-m.tails.items = ap length c.deref_mut.ensures.value ∙ length-set c.loop-m.tails.items (m - 1) (c.index.result.now + c.from.result) in
     record { from = inside.0; to = omega (arith, inside.1, fits.0, long, c.loop-m.invariant.count) }
 
-pub raise-requires-in-ByIssue-2 : goal.raise-requires-in-ByIssue-2
-raise-requires-in-ByIssue-2 c =
-    let timings = c.args.timings.now in
-    let m = c.loop-m.m - 1 in
-    let timing = timing_of timings m in
-    let f = timing.follows in
-    let before = c.requires.earlier f m (awaits_it f timing.think c.if-timing-eq0.false) in
-    let long : length c.deref_mut-in-ByIssue-2.result.now ≡ length c.loop-m.tails.items
-    = ap length c.deref_mut-in-ByIssue-2.ensures.value ∙ length-set c.loop-m.tails.items (m - 1) (c.index.result.now + c.from.result) in
-    All-cons (IsAmongFirst (length c.deref_mut-in-ByIssue-2.result.now)) f []
-    (record { from = before.from; to = omega (arith, before.earlier, before.to, long, c.loop-m.invariant.count) })
-    (All-nil (IsAmongFirst (length c.deref_mut-in-ByIssue-2.result.now)))
-
--- the tail of the message that has its turn
-module _ (old : List ℕ) (timings : List Timing) (count : length old ≡ length timings) (n index cost : ℕ) (to : n ≤ length timings) (from : 1 ≤ n)
-    (read : index ≡ get_or old (n - 1) index) (is : cost ≡ (timing_of timings n).cost) where
+-- the message that has its turn, and its tail
+module _ (old : List ℕ) (timings : List Timing) (count : length old ≡ length timings) (n index cost : ℕ) (timing : Timing) (to : n ≤ length timings) (from : 1 ≤ n)
+    (read : index ≡ get_or old (n - 1) index) (found : timing ≡ get_or timings (n - 1) timing) (is : cost ≡ timing.cost) where
   number_is : IsAmongFirst (length timings) n
   number_is = record { from = from; to = to }
 
-  sum_is : index + cost ≡ tail_of old n + (work_of timings).cost n
-  sum_is = omega (arith, get_or_read old (n - 1) index (omega (arith, from, to, count)) read 0, is)
+  timing_is : timing ≡ timing_of timings n
+  timing_is = get_or_read timings (n - 1) timing (omega (arith, from, to)) found no_timing
 
-pub loop-m-preserved-then-timing-eq0 : goal.loop-m-preserved-then-timing-eq0
-loop-m-preserved-then-timing-eq0 c =
+  sum_is : index + cost ≡ tail_of old n + (work_of timings).cost n
+  sum_is =
+      let costs = ap (λ (t : Timing). t.cost) timing_is in
+      omega (arith, get_or_read old (n - 1) index (omega (arith, from, to, count)) read 0, is, costs)
+
+pub raise_awaited-requires-clause-numbers : goal.raise_awaited-requires-clause-numbers
+raise_awaited-requires-clause-numbers c i awaited =
     let timings = c.args.timings.now in
-    let work = work_of timings in
-    let old = c.loop-m.tails.items in
     let m = c.loop-m.m - 1 in
+    let timing = c.index-timings-m.result in
+    let old = c.loop-m.tails.items in
     let tail = c.index.result.now + c.from.result in
     let count = c.loop-m.invariant.count in
-    let from : 1 ≤ m = omega arith in
-    let to : m ≤ length timings = omega (arith, c.loop-m.auto.m) in
-    let timing = timing_of timings m in
-    let these = subst (λ s. HoldsThese s work m [] tail tail) (sym c.in-ByIssue.is)
-    (holds_none c.in-ByIssue.field-0 work m tail tail (awaits_none timing.follows timing.think c.if-timing-eq0.true)) in
-    record {
-      count = length-set old (m - 1) tail ∙ count;
-      after = tails_step c.args.service.now timings c.requires.small c.requires.earlier c.requires.fits old (set old (m - 1) tail) [] m tail tail count
-          (number_is old timings count m c.index.result.now c.from.result to from c.index.ensures c.from.ensures)
-          (sum_is old timings count m c.index.result.now c.from.result to from c.index.ensures c.from.ensures)
-          these (raised_none (set old (m - 1) tail) tail) c.loop-m.invariant.after;
-    }
+    let is = timing_is old timings count m c.index.result.now c.from.result timing (omega (arith, c.loop-m.auto.m)) (omega arith) c.index.ensures c.index-timings-m.is c.from.ensures in
+    let before = c.requires.earlier i m (subst (λ (t : Timing). IsAwaited (awaits_by Every t) i) is awaited) in
+    let long : length c.deref_mut-in-ByIssue.result.now ≡ length old = ap length c.deref_mut-in-ByIssue.ensures.value ∙ length-set old (m - 1) tail in
+    record { from = before.from; to = omega (arith, before.earlier, before.to, long, count) }
 
 pub loop-m-preserved-in-ByNumber : goal.loop-m-preserved-in-ByNumber
 loop-m-preserved-in-ByNumber c =
+    let service = c.args.service.now in
     let timings = c.args.timings.now in
     let work = work_of timings in
     let old = c.loop-m.tails.items in
@@ -100,47 +84,49 @@ loop-m-preserved-in-ByNumber c =
     let needs = c.in-ByNumber.needs in
     let m = c.loop-m.m - 1 in
     let tail = c.index.result.now + c.from.result in
+    let timing = c.index-timings-m.result in
     let count = c.loop-m.invariant.count in
     let from : 1 ≤ m = omega arith in
     let to : m ≤ length timings = omega (arith, c.loop-m.auto.m) in
-    let these = subst (λ s. HoldsThese s work m (needs_of needs.now m) tail tail) (sym c.in-ByNumber.is) (holds_needs needs work m tail from) in
-    let raised = subst (λ xs. AreRaised (set old (m - 1) tail) xs tail new) c.of.ensures.needs (subst (λ xs. AreRaised xs c.of.result.now tail new) c.deref_mut.ensures.value c.raise.ensures) in
+    let raised = subst (λ xs. AreRaised (set old (m - 1) tail) (Contains xs) (λ i. 0) tail new) c.of.ensures.needs
+    (subst (λ xs. AreRaised xs (Contains c.of.result.now) (λ i. 0) tail new) c.deref_mut.ensures.value c.raise.ensures) in
+    let these = subst (λ s. AreRaised (set old (m - 1) tail) (λ i. holds_by (basis_of s) work i m) (λ i. gap_by (basis_of s) work i m) tail new) (sym c.in-ByNumber.is)
+    (raised_needs needs work (set old (m - 1) tail) new m tail from raised) in
     let long : length new ≡ length old = raised.count ∙ length-set old (m - 1) tail in
     let is = refilled c.loop-m.tails.len new (set old (m - 1) tail) (long ∙ sym c.loop-m.tails.ok.0) (length-set old (m - 1) tail ∙ sym c.loop-m.tails.ok.0) in
     rw is (record {
       count = long ∙ count;
-      after = tails_step c.args.service.now timings c.requires.small c.requires.earlier c.requires.fits old new (needs_of needs.now m) m tail tail count
-          (number_is old timings count m c.index.result.now c.from.result to from c.index.ensures c.from.ensures)
-          (sum_is old timings count m c.index.result.now c.from.result to from c.index.ensures c.from.ensures)
-          these raised c.loop-m.invariant.after;
+      after = tails_step service timings c.requires.small c.requires.earlier c.requires.fits old new m tail count
+          (number_is old timings count m c.index.result.now c.from.result timing to from c.index.ensures c.index-timings-m.is c.from.ensures)
+          (sum_is old timings count m c.index.result.now c.from.result timing to from c.index.ensures c.index-timings-m.is c.from.ensures)
+          these c.loop-m.invariant.after;
     })
 
 pub loop-m-preserved : goal.loop-m-preserved
 loop-m-preserved c =
+    let service = c.args.service.now in
     let timings = c.args.timings.now in
     let work = work_of timings in
     let old = c.loop-m.tails.items in
-    let new = c.raise-in-ByIssue-2.new.tails in
+    let new = c.raise_awaited.new.tails in
     let m = c.loop-m.m - 1 in
-    let timing = timing_of timings m in
-    let f = timing.follows in
     let tail = c.index.result.now + c.from.result in
-    let most = c.from-in-ByIssue-2.result + tail in
+    let timing = c.index-timings-m.result in
     let count = c.loop-m.invariant.count in
     let from : 1 ≤ m = omega arith in
     let to : m ≤ length timings = omega (arith, c.loop-m.auto.m) in
-    let these = subst (λ s. HoldsThese s work m (f ∷ []) tail most) (sym c.in-ByIssue-2.is)
-    (subst (λ t. HoldsThese (ByIssue c.in-ByIssue-2.field-0) work m (f ∷ []) tail (t + tail)) (sym c.from-in-ByIssue-2.ensures)
-    (holds_followed c.in-ByIssue-2.field-0 work m tail f timing.think (awaits_one f timing.think c.if-timing-eq0.false))) in
-    let raised = subst (λ xs. AreRaised xs (f ∷ []) most new) c.deref_mut-in-ByIssue-2.ensures.value c.raise-in-ByIssue-2.ensures in
+    let found = timing_is old timings count m c.index.result.now c.from.result timing to from c.index.ensures c.index-timings-m.is c.from.ensures in
+    let Raised = λ (xs : List ℕ) (t : Timing). AreRaised xs (IsAwaited (awaits_by Every t)) (λ i. gap_after i (awaits_by Every t)) tail new in
+    let raised = subst (λ (t : Timing). Raised (set old (m - 1) tail) t) found (subst (λ xs. Raised xs timing) c.deref_mut-in-ByIssue.ensures.value c.raise_awaited.ensures) in
+    let these = subst (λ s. AreRaised (set old (m - 1) tail) (λ i. holds_by (basis_of s) work i m) (λ i. gap_by (basis_of s) work i m) tail new) (sym c.in-ByIssue.is) raised in
     let long : length new ≡ length old = raised.count ∙ length-set old (m - 1) tail in
     let is = refilled c.loop-m.tails.len new (set old (m - 1) tail) (long ∙ sym c.loop-m.tails.ok.0) (length-set old (m - 1) tail ∙ sym c.loop-m.tails.ok.0) in
     rw is (record {
       count = long ∙ count;
-      after = tails_step c.args.service.now timings c.requires.small c.requires.earlier c.requires.fits old new (f ∷ []) m tail most count
-          (number_is old timings count m c.index.result.now c.from.result to from c.index.ensures c.from.ensures)
-          (sum_is old timings count m c.index.result.now c.from.result to from c.index.ensures c.from.ensures)
-          these raised c.loop-m.invariant.after;
+      after = tails_step service timings c.requires.small c.requires.earlier c.requires.fits old new m tail count
+          (number_is old timings count m c.index.result.now c.from.result timing to from c.index.ensures c.index-timings-m.is c.from.ensures)
+          (sum_is old timings count m c.index.result.now c.from.result timing to from c.index.ensures c.index-timings-m.is c.from.ensures)
+          these c.loop-m.invariant.after;
     })
 
 pub returns-clause-tails : goal.returns-clause-tails

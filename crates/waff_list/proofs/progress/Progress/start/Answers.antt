@@ -1,6 +1,6 @@
 use Rattle.std.proofs.Common.{ℕ, List, sym, subst}
+use Rattle.waff_plan.specs.Timing.{HasIssue}
 use Rattle.waff_list.specs.Issuing.{IsOpened}
-use Rattle.waff_list.specs.Tasks.{HasIssue}
 use Rattle.waff_list.proofs.progress.Progress.start.Goals as goal
 
 pub admit-requires-clause-issued : goal.admit-requires-clause-issued

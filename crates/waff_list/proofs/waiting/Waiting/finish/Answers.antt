@@ -4,11 +4,10 @@ use Rattle.std.proofs.lemmas.Bool.{false≢true}
 use Rattle.std.proofs.lemmas.List.{set-get_or}
 use Rattle.std.proofs.lemmas.List.Elements.{All-contains}
 use Rattle.waff_model.specs.Numbers.{IsAmongFirst}
-use Rattle.waff_plan.specs.Timing.{start_of, work_of}
+use Rattle.waff_plan.specs.Timing.{HasIssue, start_of, work_of}
 use Rattle.waff_waits.specs.Ready.{ranked_in}
 use Rattle.waff_waits.specs.Times.{AreEach}
 use Rattle.waff_waits.specs.Waits.{IsFree, WhoWaits, waiting_for}
-use Rattle.waff_list.specs.Tasks.{HasIssue}
 use Rattle.waff_list.specs.Telling.{key_in, priority_in}
 use Rattle.waff_list.specs.declared.service.Service.{Service}
 use Rattle.waff_waits.proofs.LettingGo.{going_bound, going_next, it_waited}

@@ -1,10 +1,9 @@
 use Rattle.std.proofs.Common.{◌∷◌, sym, ◌∙◌, subst}
 use Rattle.std.specs.List.Sorted.{IsPermutation}
 use Rattle.std.proofs.lemmas.Bool.{false≢true}
-use Rattle.waff_plan.specs.Timing.{start_of, work_of}
+use Rattle.waff_plan.specs.Timing.{HasIssue, start_of, work_of}
 use Rattle.waff_waits.specs.Waits.{WhoWaits}
 use Rattle.waff_list.specs.Planning.{AreIssuing, IsLearnt}
-use Rattle.waff_list.specs.Tasks.{HasIssue}
 use Rattle.waff_list.specs.Telling.{key_in, priority_in}
 use Rattle.waff_list.specs.declared.service.Service.{Service}
 use Rattle.waff_list.proofs.Issuing.{awaited_count, issuing_bound, issuing_ready, next_issue, next_new}
