@@ -62,7 +62,7 @@ given_of version rows summary = Ok (record { version = version; rows = rows; sum
 
 lines_read_same : {v w : Version} → Both v w → (messages at : ℕ) (slots : Slots) (records : List Record)
     → plan_of_summary w messages at slots records ≡ read_in w (plan_of_summary v messages at slots records)
-unfolding plan_of_summary, given_of
+unfolding plan_of_summary given_of
 lines_read_same {v} {w} both messages at slots records =
     after_same w (rows_in slots) (λ rows. summary_of v messages at records >>= given_of v rows) (λ rows. summary_of w messages at records >>= given_of w rows)
     (λ rows.
