@@ -7,6 +7,7 @@ mod ShiftSteps
 mod PlaceLaws
 mod OverlapLaws
 mod LinkLaws
+mod ListLaws
 pub mod ServedLaws
 pub mod ServesLaws
 mod ShortLaws

@@ -4,7 +4,7 @@ use Rattle.std.proofs.lemmas.Bool.{cases_eq, cases_lt}
 use Rattle.waff_model.specs.Tree.{Node}
 use Rattle.waff_model.specs.Versions.{has_clients}
 use Rattle.waff_model.specs.declared.message.Version.{Version}
-use Rattle.waff_model.specs.declared.message.Version.TheVariants.{V1, V2, V3}
+use Rattle.waff_model.specs.declared.message.Version.TheVariants.{V1, V2, V3, V4}
 use Rattle.waff_assign.specs.Order.{IsOrdered, Relation}
 use Rattle.waff_plan.specs.Chain.{IsChain, LinksOn}
 use Rattle.waff_plan.specs.Obeys.{IsLinked}
@@ -98,9 +98,11 @@ pub in_turn : (version : Version) (tree : List Node) (assigned : List ℕ) (star
 in_turn V1 tree assigned start none = refl
 in_turn V2 tree assigned start none = refl
 in_turn V3 tree assigned start none = absurd (cc)
+in_turn V4 tree assigned start none = absurd (cc)
 
 pub by_starts : (version : Version) (tree : List Node) (assigned : List ℕ) (start : ℕ → ℕ) → has_clients version ≡ true
     → started_before version tree assigned start ≡ IsStartedBefore tree assigned start
 by_starts V1 tree assigned start some = absurd (cc)
 by_starts V2 tree assigned start some = absurd (cc)
 by_starts V3 tree assigned start some = refl
+by_starts V4 tree assigned start some = refl

@@ -8,7 +8,7 @@ use Rattle.std.proofs.lemmas.List.FromFn.{get_or-map-range_with_len, length-map-
 use Rattle.waff_model.specs.Tree.{Node}
 use Rattle.waff_model.specs.Versions.{has_clients}
 use Rattle.waff_model.specs.declared.message.Version.{Version}
-use Rattle.waff_model.specs.declared.message.Version.TheVariants.{V1, V2, V3}
+use Rattle.waff_model.specs.declared.message.Version.TheVariants.{V1, V2, V3, V4}
 use Rattle.waff_assign.specs.Instance.{Instance, before_in}
 use Rattle.waff_assign.specs.Order.{IsOrdered}
 use Rattle.waff_plan.specs.Apart.{AreApart}
@@ -18,18 +18,17 @@ use Rattle.waff_plan.specs.IssueLaws.{StartsIssued}
 use Rattle.waff_plan.specs.Issues.{IsServedBefore}
 use Rattle.waff_plan.specs.Obeys.{AwaitsEarlier, KeepsOrder, Obeys}
 use Rattle.waff_plan.specs.Instances.{started_first, work_of_instance}
-use Rattle.waff_plan.specs.Serving.{served_before, started_before}
-use Rattle.waff_plan.specs.Timetable.{clients_of}
+use Rattle.waff_plan.specs.Serving.{IsStartedBefore, served_before, started_before}
+use Rattle.waff_plan.specs.Timetable.{timings_of}
 use Rattle.waff_plan.specs.Unique.{AreSame}
 use Rattle.waff_plan.specs.Work.{Work, IsNumber, length_of, numbers}
 use Rattle.waff_plan.specs.Workers.{running, runs_at}
 use Rattle.waff_plan.proofs.ApartLaws.{apart_where_finished, turned}
-use Rattle.waff_plan.proofs.ClientLemmas.{client_follows_earlier}
 use Rattle.waff_plan.proofs.Exclusion.{excludes_back}
 use Rattle.waff_plan.proofs.IssueOrder.{one_is_issued_first}
 use Rattle.waff_plan.proofs.Holding.{same_issue}
 use Rattle.waff_plan.proofs.Ticks.{sum_by-numbers-le}
-use Rattle.waff_plan.proofs.TimingLemmas.{length-timings_of, timings_follow_clients}
+use Rattle.waff_plan.proofs.TimingLemmas.{length-timings_of}
 use Rattle.waff_plan.proofs.Uniqueness.{same_length, totals_same}
 use Rattle.waff_plan_text.specs.Given.{no_row, row_at}
 use Rattle.waff_plan_text.specs.Laws.{row_told}
@@ -42,8 +41,9 @@ use Rattle.waff_check.specs.Shifts.{IsOneOf}
 use Rattle.waff_check.specs.Verdicts.{Claim, IsFaultless, IsFound, IsFreeBelow, IsShort, IsShortWhere, KeepsBound, ReachesLength, IsVerdict, chain_in, stage, start_in, version_of, work_of_claim, worker_in, workers_in}
 use Rattle.waff_check.specs.declared.verdict.Verdict.TheVariants as verdict
 use Rattle.waff_check.proofs.LinkLaws.{chain-linked, chain-of-more}
+use Rattle.waff_check.proofs.ListLaws.{none_listed, none_unissued}
 use Rattle.waff_check.proofs.OverlapLaws.{overlap_parts}
-use Rattle.waff_check.proofs.ServedLaws.{none_early, none_unissued}
+use Rattle.waff_check.proofs.ServedLaws.{none_early}
 
 -- no more run at a tick under the same starts
 no_more_run : (work : Work) (start other : ℕ → ℕ) → AreSame work start other → (t : ℕ) → running work start t ≤ running work other t
@@ -118,6 +118,7 @@ abbrev KeepsFor : Version → List Node → List ℕ → Work → (ℕ → ℕ) 
 KeepsFor V1 tree assigned work start = KeepsOrder (IsOrdered tree assigned) work start
 KeepsFor V2 tree assigned work start = KeepsOrder (IsOrdered tree assigned) work start
 KeepsFor V3 tree assigned work start = AreApart (IsOrdered tree assigned) work start
+KeepsFor V4 tree assigned work start = AreApart (IsOrdered tree assigned) work start
 
 -- a plan that obeys the order of its version keeps that
 served_keeps : (version : Version) (tree : List Node) (assigned : List ℕ) (work : Work) (start : ℕ → ℕ) → length assigned ≡ work.count
@@ -125,6 +126,7 @@ served_keeps : (version : Version) (tree : List Node) (assigned : List ℕ) (wor
 served_keeps V1 tree assigned work start long obeys = obeys.ordered
 served_keeps V2 tree assigned work start long obeys = obeys.ordered
 served_keeps V3 tree assigned work start long obeys = issued_apart tree assigned work start long obeys
+served_keeps V4 tree assigned work start long obeys = issued_apart tree assigned work start long obeys
 
 -- and so does one that keeps the order of its chains, and whose messages that exclude each other run at no common tick
 started_keeps : (version : Version) (tree : List Node) (assigned : List ℕ) (work : Work) (start : ℕ → ℕ)
@@ -133,6 +135,7 @@ started_keeps : (version : Version) (tree : List Node) (assigned : List ℕ) (wo
 started_keeps V1 tree assigned work start order apart = order
 started_keeps V2 tree assigned work start order apart = order
 started_keeps V3 tree assigned work start order apart = apart
+started_keeps V4 tree assigned work start order apart = apart
 
 -- under the same starts no pair of such a plan overlaps
 none_overlap : (version : Version) (tree : List Node) (assigned : List ℕ) (work : Work) (start told : ℕ → ℕ)
@@ -144,16 +147,23 @@ none_overlap V2 tree assigned work start told same order i j first second pair =
     omega (arith, same i first, same j second, order i j pair.ordered, pair.early)
 none_overlap V3 tree assigned work start told same apart i j first second pair =
     apart i j (record { ordered = pair.ordered; together = together_too work told start same i j first second pair.together })
+none_overlap V4 tree assigned work start told same apart i j first second pair =
+    apart i j (record { ordered = pair.ordered; together = together_too work told start same i j first second pair.together })
 
--- and messages start in the same order
+-- messages start in the same order
+starts_too : (tree : List Node) (assigned : List ℕ) (work : Work) (start told : ℕ → ℕ) → length assigned ≡ work.count → AreSame work told start
+    → (i j : ℕ) → IsStartedBefore tree assigned start i j → IsStartedBefore tree assigned told i j
+starts_too tree assigned work start told long same i j before =
+    let one = same i (record { from = before.first.from; to = omega (arith, before.first.to, long) }) in
+    let other = same j (record { from = before.second.from; to = omega (arith, before.second.to, long) }) in
+    record { first = before.first; second = before.second; precedes = omega (arith, one, other, before.precedes); excludes = before.excludes }
+
 started_too : (version : Version) (tree : List Node) (assigned : List ℕ) (work : Work) (start told : ℕ → ℕ) → length assigned ≡ work.count
     → AreSame work told start → (i j : ℕ) → started_before version tree assigned start i j → started_before version tree assigned told i j
 started_too V1 tree assigned work start told long same i j before = before
 started_too V2 tree assigned work start told long same i j before = before
-started_too V3 tree assigned work start told long same i j before =
-    let one = same i (record { from = before.first.from; to = omega (arith, before.first.to, long) }) in
-    let other = same j (record { from = before.second.from; to = omega (arith, before.second.to, long) }) in
-    record { first = before.first; second = before.second; precedes = omega (arith, one, other, before.precedes); excludes = before.excludes }
+started_too V3 tree assigned work start told long same i j before = starts_too tree assigned work start told long same i j before
+started_too V4 tree assigned work start told long same i j before = starts_too tree assigned work start told long same i j before
 
 -- and each message is issued when it starts
 issued_too : (work : Work) (start told : ℕ → ℕ) → AwaitsEarlier work → AreSame work told start → StartsIssued work start → StartsIssued work told
@@ -195,40 +205,41 @@ module _ (instance : Instance) (workers : Option ℕ) (start : ℕ → ℕ)
   long : length instance.assigned ≡ length instance.trace.messages → length instance.assigned ≡ work.count
   long count = omega (arith, count, length-timings_of instance.trace.messages)
 
-  issued : StartsIssued work start → StartsIssued work (start_in claim)
-  issued =
-      issued_too work start (start_in claim)
-      (client_follows_earlier (clients_of instance.trace.messages) work (timings_follow_clients instance.trace.messages)) tells_start
+  issued : AwaitsEarlier work → StartsIssued work start → StartsIssued work (start_in claim)
+  issued earlier = issued_too work start (start_in claim) earlier tells_start
 
   -- a claim of an obeying plan with its chain has no fault
-  no_fault : length instance.assigned ≡ length instance.trace.messages → StartsIssued work start
+  no_fault : length instance.assigned ≡ length instance.trace.messages → AwaitsEarlier work → StartsIssued work start
       → KeepsFor instance.trace.version instance.tree instance.assigned work start → IsChain (started_first instance start) work chain
       → ((k : ℕ) → workers ≡ Some k → (t : ℕ) → running work start t ≤ k)
       → NoneOf (HasWrongWorker work (start_in claim) (worker_in claim.plan) workers) → IsFaultless claim
-  no_fault count starts keeps is_chain within manned (verdict.Overlap i j) less = λ overlap.
+  no_fault count earlier starts keeps is_chain within manned (verdict.Overlap i j) less = λ overlap.
       let pair = (overlap_parts (has_clients instance.trace.version) (before_in instance) work (start_in claim) i j overlap).0 in
       let from : 1 ≤ i = pair.from in
       let earlier : i < j = pair.earlier in
       none_overlap instance.trace.version instance.tree instance.assigned work start (start_in claim) tells_start keeps i j
       (record { from = from; to = omega (arith, earlier, pair.to, long count) })
       (record { from = omega (arith, from, earlier); to = omega (arith, pair.to, long count) }) overlap
-  no_fault count starts keeps is_chain within manned (verdict.TooManyAt tick) less =
+  no_fault count earlier starts keeps is_chain within manned (verdict.TooManyAt tick) less =
       uncrowded work (start_in claim) workers
       (λ k is t. let few = within k is t in let same = no_more_run work (start_in claim) start tells_start t in omega (arith, few, same)) tick
-  no_fault count starts keeps is_chain within manned (verdict.Worker n) less = manned n
-  no_fault count starts keeps is_chain within manned (verdict.Affinity n) less = λ wrong.
+  no_fault count earlier starts keeps is_chain within manned (verdict.Worker n) less = manned n
+  no_fault count earlier starts keeps is_chain within manned (verdict.Affinity n) less = λ wrong.
       wrong.wrong (ap (λ (row : Row). row.affinity) (tells_row n wrong.number))
-  no_fault count starts keeps is_chain within manned (verdict.Finish n) less = λ wrong.
+  no_fault count earlier starts keeps is_chain within manned (verdict.Finish n) less = λ wrong.
       wrong.wrong (ap (λ (row : Row). row.finish) (tells_row n wrong.number) ∙ ap (λ s. s + work.cost n) (tells_back n wrong.number))
-  no_fault count starts keeps is_chain within manned verdict.Totals less = totals_same workers work start (start_in claim) chain tells_back
-  no_fault count starts keeps is_chain within manned (verdict.NotAChain place) less =
+  no_fault count earlier starts keeps is_chain within manned verdict.Totals less = totals_same workers work start (start_in claim) chain tells_back
+  no_fault count earlier starts keeps is_chain within manned (verdict.NotAChain place) less =
       chain-linked (started_first instance (start_in claim)) work chain
       (chain-of-more (started_first instance start) (started_first instance (start_in claim)) work
       (started_too instance.trace.version instance.tree instance.assigned work start (start_in claim) (long count) tells_start) chain is_chain)
       place
-  no_fault count starts keeps is_chain within manned (verdict.Early n) less = none_early work (start_in claim) (issued starts) n
-  no_fault count starts keeps is_chain within manned (verdict.Client n) less = none_unissued work (start_in claim) (issued starts) n
-  no_fault count starts keeps is_chain within manned _ less = absurd (omega arith)
+  no_fault count earlier starts keeps is_chain within manned (verdict.Early n) less = none_early work (start_in claim) (issued earlier starts) n
+  no_fault count earlier starts keeps is_chain within manned (verdict.Client n) less =
+      none_unissued (timings_of instance.trace.messages) (start_in claim) (issued earlier starts) n
+  no_fault count earlier starts keeps is_chain within manned (verdict.After n i) less =
+      none_listed (timings_of instance.trace.messages) (start_in claim) (issued earlier starts) n i
+  no_fault count earlier starts keeps is_chain within manned _ less = absurd (omega arith)
 
 -- whether a plan is as short as any can be
 short_or_longer : (clients : Bool) (claim : Claim) → (IsShortWhere clients claim) ⊎ (IsShortWhere clients claim → ⊥)
@@ -272,22 +283,22 @@ found_within claim true is good loose kept = elim (short_or_longer (has_clients 
 
 pub own_plan_is_shortest : (instance : Instance) (start : ℕ → ℕ) (chain : List ℕ)
     → OwnPlanIsShortest instance start chain
-own_plan_is_shortest instance start chain count obeys is_chain as_long =
+own_plan_is_shortest instance start chain count earlier obeys is_chain as_long =
     let told = claim_told instance None start no_worker chain in
     found_short told (has_clients instance.trace.version) refl
-    (no_fault instance None start no_worker chain count obeys.issued
+    (no_fault instance None start no_worker chain count earlier obeys.issued
     (served_keeps instance.trace.version instance.tree instance.assigned (work_of_instance instance) start (long instance None start no_worker chain count) obeys) is_chain (λ k none. absurd (cc))
     (no_workers (work_of_instance instance) (start_in told) (worker_in told.plan) (tells_worker instance None start no_worker chain)))
     (as_long ∙ same_length (work_of_instance instance) start (start_in told) (tells_back instance None start no_worker chain))
 
 pub own_plan_is_within_bound : (instance : Instance) (k : ℕ) (start : ℕ → ℕ)
     (worker : ℕ → Option ℕ) (chain : List ℕ) → OwnPlanIsWithinBound instance k start worker chain
-own_plan_is_within_bound instance k start worker chain count plan manned is_chain bound =
+own_plan_is_within_bound instance k start worker chain count earlier plan manned is_chain bound =
     let told = claim_told instance (Some k) start worker chain in
     let all = work_of_instance instance in
     let same = tells_start instance (Some k) start worker chain in
     let good : IsFaultless told =
-    no_fault instance (Some k) start worker chain count plan.obeys.issued
+    no_fault instance (Some k) start worker chain count earlier plan.obeys.issued
     (served_keeps instance.trace.version instance.tree instance.assigned all start (long instance (Some k) start worker chain count) plan.obeys) is_chain
     (λ j is t. subst (λ n. running all start t ≤ n) (some_is k j is) (plan.within t))
     (right_workers all start (start_in told) worker (worker_in told.plan) k same (tells_worker instance (Some k) start worker chain) manned) in
@@ -338,11 +349,11 @@ verdict_of claim good = elim (short_or_longer (has_clients (version_of claim)) c
 
 pub own_plan_is_accepted : (instance : Instance) (k : ℕ) (start : ℕ → ℕ) (worker : ℕ → Option ℕ) (chain : List ℕ)
     → OwnPlanIsAccepted instance k start worker chain
-own_plan_is_accepted instance k start worker chain count plan apart manned is_chain =
+own_plan_is_accepted instance k start worker chain count earlier plan apart manned is_chain =
     let told = claim_told instance (Some k) start worker chain in
     let all = work_of_instance instance in
     verdict_of told
-    (no_fault instance (Some k) start worker chain count plan.obeys.issued
+    (no_fault instance (Some k) start worker chain count earlier plan.obeys.issued
     (started_keeps instance.trace.version instance.tree instance.assigned all start plan.obeys.ordered apart) is_chain
     (λ j is t. subst (λ n. running all start t ≤ n) (same_Some k j is) (plan.within t))
     (right_workers all start (start_in told) worker (worker_in told.plan) k (tells_start instance (Some k) start worker chain)

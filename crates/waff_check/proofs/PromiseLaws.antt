@@ -3,21 +3,20 @@ use Rattle.std.proofs.Common.{◌≡◌, ◌↔◌, ℕ, ◌≤◌, true, Option
 use Rattle.std.proofs.lemmas.Bool.{cases_lt}
 use Rattle.waff_model.specs.Versions.{has_clients}
 use Rattle.waff_model.specs.declared.message.Version.{Version}
-use Rattle.waff_model.specs.declared.message.Version.TheVariants.{V1, V2, V3}
+use Rattle.waff_model.specs.declared.message.Version.TheVariants.{V1, V2, V3, V4}
 use Rattle.waff_model.specs.Tree.{IsTree}
 use Rattle.waff_plan.specs.Apart.{AreApart}
 use Rattle.waff_plan.specs.Bound.{IsWorkers}
 use Rattle.waff_plan.specs.Chain.{IsChain}
-use Rattle.waff_plan.specs.Obeys.{Obeys}
+use Rattle.waff_plan.specs.Obeys.{AwaitsEarlier, Obeys}
 use Rattle.waff_plan.specs.Serving.{started_before}
 use Rattle.waff_plan.specs.Work.{length_of}
 use Rattle.waff_plan.specs.Workers.{IsWorkerPlan, running}
-use Rattle.waff_plan.specs.Timetable.{clients_of}
+use Rattle.waff_plan.specs.Timetable.{timings_of}
 use Rattle.waff_plan.proofs.Chains.{chains_are_within_length}
-use Rattle.waff_plan.proofs.ClientLemmas.{client_follows_earlier}
 use Rattle.waff_plan.proofs.Ratios.{bound_is_within_ratio, bound_is_within_twice}
 use Rattle.waff_plan.proofs.LowerBounds.{none_is_below}
-use Rattle.waff_plan.proofs.TimingLemmas.{length-timings_of, timings_follow_clients}
+use Rattle.waff_plan.proofs.TimingLemmas.{length-timings_of}
 use Rattle.waff_check.specs.Faults.{HasWrongWorker, IsCrowded, NoneOf}
 use Rattle.waff_plan_text.specs.Given.{IsGiven}
 use Rattle.waff_check.specs.Promises.{Accepts, AreOneAtATime, IsRivalWhere, IsWithin, Promises, ServesAlike}
@@ -25,7 +24,8 @@ use Rattle.waff_check.specs.Verdicts.{Claim, IsClaim, IsFaultless, IsShortWhere,
 use Rattle.waff_check.specs.declared.verdict.Verdict.{Verdict}
 use Rattle.waff_check.specs.declared.verdict.Verdict.TheVariants as verdict
 use Rattle.waff_check.proofs.LinkLaws.{is-chain}
-use Rattle.waff_check.proofs.ServedLaws.{AllRun, none_together, order_is_kept, starts_issued}
+use Rattle.waff_check.proofs.ListLaws.{starts_issued}
+use Rattle.waff_check.proofs.ServedLaws.{AllRun, none_together, order_is_kept}
 use Rattle.waff_check.proofs.ServesLaws.{serves_where_obeys}
 use Rattle.waff_check.proofs.ShiftLaws.{not-taken, seated-where-right}
 
@@ -38,18 +38,17 @@ faultless-of claim verdict.WithinBound h a v less = h.free v (omega (arith, less
 faultless-of claim _ h a v less = absurd a
 
 -- where messages have clients no plan that obeys is shorter than the lower bound
-none-below : (claim : Claim) → IsClaim claim → IsGiven claim.plan → IsTree claim.instance.tree → (other : ℕ → ℕ) → IsRivalWhere true claim other
-    → lower_bound_in claim ≤ length_of (work_of_claim claim) other
-none-below claim is given tree =
-    let messages = claim.instance.trace.messages in
+none-below : (claim : Claim) → IsClaim claim → AwaitsEarlier (work_of_claim claim) → IsGiven claim.plan → IsTree claim.instance.tree
+    → (other : ℕ → ℕ) → IsRivalWhere true claim other → lower_bound_in claim ≤ length_of (work_of_claim claim) other
+none-below claim is earlier given tree =
     none_is_below (workers_in claim) claim.instance.tree claim.instance.assigned (work_of_claim claim) tree
-    (omega (arith, is.lengths, length-timings_of messages)) given.workers
-    (client_follows_earlier (clients_of messages) (work_of_claim claim) (timings_follow_clients messages))
+    (omega (arith, is.lengths, length-timings_of claim.instance.trace.messages)) given.workers earlier
 
-module _ (claim : Claim) (is : IsClaim claim) (run : AllRun (work_of_claim claim) claim.instance.assigned) where
+module _ (claim : Claim) (is : IsClaim claim) (run : AllRun (work_of_claim claim) claim.instance.assigned) (earlier : AwaitsEarlier (work_of_claim claim)) where
   obeys : IsFaultless claim → Obeys (before_of claim) (work_of_claim claim) (start_in claim)
   obeys good = record {
-    issued = starts_issued (work_of_claim claim) (start_in claim) (λ m. good (verdict.Early m) (omega arith)) (λ m. good (verdict.Client m) (omega arith));
+    issued = starts_issued (timings_of claim.instance.trace.messages) (start_in claim) (λ m. good (verdict.Early m) (omega arith))
+        (λ m. good (verdict.Client m) (omega arith)) (λ m i. good (verdict.After m i) (omega arith));
     ordered = order_is_kept claim.instance.tree claim.instance.assigned (work_of_claim claim) (start_in claim) (version_of claim) run
         (λ i j. good (verdict.Overlap i j) (omega arith));
   }
@@ -108,6 +107,7 @@ module _ (claim : Claim) (is : IsClaim claim) (run : AllRun (work_of_claim claim
   shortest-in V2 least chain reach other o =
       omega (arith, chains_are_within_length (pairs_of_claim claim) (work_of_claim claim) (chain_in claim) other chain o, reach)
   shortest-in V3 least chain short other o = omega (arith, least other o, short)
+  shortest-in V4 least chain short other o = omega (arith, least other o, short)
 
   some-workers : (w : Option ℕ) (k : ℕ) → w ≡ Some k → IfSome w IsWorkers → 1 ≤ k
   some-workers w k e h = let at = rw e at h in at.from
@@ -139,7 +139,7 @@ module _ (claim : Claim) (is : IsClaim claim) (run : AllRun (work_of_claim claim
     chain = λ a. chain-of given (faultless-of claim v h a);
     shortest = λ e.
         let short = subst (IsVerdict claim) e h in
-        shortest-in (version_of claim) (none-below claim is given tree) (chain-of given (faultless-of claim verdict.Shortest short tt)) short.found;
+        shortest-in (version_of claim) (none-below claim is earlier given tree) (chain-of given (faultless-of claim verdict.Shortest short tt)) short.found;
     tight = λ e.
         let reach = subst (IsVerdict claim) e h in
         tight given (faultless-of claim verdict.Tight reach tt) reach.found;

@@ -2,10 +2,10 @@
 use Rattle.std.proofs.Common.{◌≡◌, ◌≢◌, ℕ, ◌-◌, ◌<◌, ◌≤◌, inl, inr, List, [], ◌∷◌, length, arith, refl, ◌∙◌, ap}
 use Rattle.std.proofs.lemmas.Bool.{cases_lt, cases_order}
 use Rattle.waff_model.specs.Messages.{Arrivals, IsTrace}
-use Rattle.waff_model.specs.Tree.{Node, Excludes}
+use Rattle.waff_model.specs.Tree.{Node}
 use Rattle.waff_model.specs.Versions.{has_clients}
 use Rattle.waff_model.specs.declared.message.Version.{Version}
-use Rattle.waff_model.specs.declared.message.Version.TheVariants.{V1, V2, V3}
+use Rattle.waff_model.specs.declared.message.Version.TheVariants.{V1, V2, V3, V4}
 use Rattle.waff_assign.specs.Order.{IsOrdered, Relation, affinity_of}
 use Rattle.waff_plan.specs.Apart.{AreApart}
 use Rattle.waff_plan.specs.IssueLaws.{StartsIssued}
@@ -13,13 +13,13 @@ use Rattle.waff_plan.specs.Obeys.{KeepsOrder}
 use Rattle.waff_plan.specs.Serving.{IsStartedBefore, started_before}
 use Rattle.waff_plan.specs.Timetable.{timings_of, work_of_messages}
 use Rattle.waff_plan.specs.Timing.{await_of, no_timing}
-use Rattle.waff_plan.specs.Work.{IsAmongFirst, Work, finish_of, gap_after, holds_until}
+use Rattle.waff_plan.specs.Work.{IsAmongFirst, Work, finish_of, gap_after}
 use Rattle.waff_plan.proofs.ApartLaws.{apart_where_finished, together_where_running, turned}
 use Rattle.waff_plan.proofs.Exclusion.{excludes_back}
 use Rattle.waff_plan.proofs.FollowLemmas.{awaits_one}
-use Rattle.waff_plan.proofs.Holding.{awaited-le-issue, floor-le-issue, gap_same, issued_by}
+use Rattle.waff_plan.proofs.Holding.{floor-le-issue, gap_same}
 use Rattle.waff_plan.proofs.TimingLemmas.{are_timings, length-timings_of}
-use Rattle.waff_check.specs.Faults.{NoneOf, Overlaps, OverlapsWhere, StartsEarly, StartsUnissued}
+use Rattle.waff_check.specs.Faults.{NoneOf, Overlaps, OverlapsWhere, StartsEarly}
 
 -- each message runs at a tick
 abbrev pub AllRun : Work → List ℕ → Type 0
@@ -58,6 +58,7 @@ module _ (tree : List Node) (assigned : List ℕ) (work : Work) (start : ℕ →
   order_is_kept V1 run none = in_order none
   order_is_kept V2 run none = in_order none
   order_is_kept V3 run none = served_apart run none
+  order_is_kept V4 run none = served_apart run none
 
   ordered_apart : KeepsOrder (IsOrdered tree assigned) work start → AreApart (IsOrdered tree assigned) work start
   ordered_apart order i j pair = apart_where_finished work start i j (order i j pair.ordered) pair.together
@@ -66,28 +67,11 @@ module _ (tree : List Node) (assigned : List ℕ) (work : Work) (start : ℕ →
   none_together V1 none = ordered_apart (in_order none)
   none_together V2 none = ordered_apart (in_order none)
   none_together V3 none = none
+  none_together V4 none = none
 
--- a message that is neither early nor starts before its client issues it
-module _ (work : Work) (start : ℕ → ℕ) where
-  pub starts_issued : NoneOf (StartsEarly work start) → NoneOf (StartsUnissued work start) → StartsIssued work start
-  starts_issued late issued m number =
-      issued_by (finish_of work start) (work.floor m) (start m) (work.awaits m)
-      (elim (cases_lt (start m) (work.floor m)) [
-        | inl early ↦ absurd (late m (record { number = number; early = early }))
-        | inr released ↦ released
-      ])
-      (λ i awaited. elim (cases_lt (start m) (holds_until work start m i)) [
-        | inl early ↦ absurd (issued m (record { number = number; awaited = i; awaits = awaited; early = early }))
-        | inr after ↦ after
-      ])
-
-  -- what is issued when it starts is neither
-  pub none_early : StartsIssued work start → NoneOf (StartsEarly work start)
-  none_early issued m early = omega (arith, floor-le-issue (λ i j. ⊥) work start m, issued m early.number, early.early)
-
-  pub none_unissued : StartsIssued work start → NoneOf (StartsUnissued work start)
-  none_unissued issued m early =
-      omega (arith, awaited-le-issue work start early.awaited m early.awaits, issued m early.number, early.early)
+-- a message that is issued when it starts is not early
+pub none_early : (work : Work) (start : ℕ → ℕ) → StartsIssued work start → NoneOf (StartsEarly work start)
+none_early work start issued m early = omega (arith, floor-le-issue (λ i j. ⊥) work start m, issued m early.number, early.early)
 
 -- the gap after the message that another follows is the think time
 pub gap_after_one : (n think : ℕ) → n ≢ 0 → gap_after n (await_of n think) ≡ think

@@ -3,12 +3,12 @@ use Rattle.std.proofs.Common.{◌↔◌, ◌⊎◌, ℕ, ◌<◌, ◌≤◌, inl
 use Rattle.std.proofs.lemmas.Bool.{cases_lt, cases_order}
 use Rattle.waff_model.specs.Tree.{Node}
 use Rattle.waff_model.specs.declared.message.Version.{Version}
-use Rattle.waff_model.specs.declared.message.Version.TheVariants.{V1, V2, V3}
+use Rattle.waff_model.specs.declared.message.Version.TheVariants.{V1, V2, V3, V4}
 use Rattle.waff_assign.specs.Order.{IsOrdered, affinity_of}
 use Rattle.waff_plan.specs.Apart.{AreApart}
 use Rattle.waff_plan.specs.Obeys.{KeepsOrder, Obeys}
 use Rattle.waff_plan.specs.ServesAs.{ServesAs}
-use Rattle.waff_plan.specs.Serving.{started_before}
+use Rattle.waff_plan.specs.Serving.{IsStartedBefore, started_before}
 use Rattle.waff_plan.specs.Work.{IsAmongFirst, Work, finish_of}
 use Rattle.waff_plan.proofs.ApartLaws.{apart_where_finished, together_where_running, turned}
 use Rattle.waff_plan.proofs.Exclusion.{excludes_back}
@@ -50,13 +50,12 @@ module _ (tree : List Node) (assigned : List ℕ) (work : Work) (start : ℕ →
   rises V2 order i j pair =
       let one : 1 ≤ work.cost i = run i (first_of tree assigned i j pair) in omega (arith, one, order i j pair)
   rises V3 order i j before = before.precedes
+  rises V4 order i j before = before.precedes
 
-  -- of two messages that exclude each other one is before the other
-  one_before : (version : Version) → AreApart (IsOrdered tree assigned) work start → (i j : ℕ) → IsOrdered tree assigned i j
-      → started_before version tree assigned start i j ⊎ started_before version tree assigned start j i
-  one_before V1 apart i j pair = inl pair
-  one_before V2 apart i j pair = inl pair
-  one_before V3 apart i j pair = elim (one_starts apart i j pair) [
+  -- by their starts one is before the other
+  one_first : AreApart (IsOrdered tree assigned) work start → (i j : ℕ) → IsOrdered tree assigned i j
+      → IsStartedBefore tree assigned start i j ⊎ IsStartedBefore tree assigned start j i
+  one_first apart i j pair = elim (one_starts apart i j pair) [
     | inl less ↦ inl (record { first = first_of tree assigned i j pair; second = second_of tree assigned i j pair; precedes = less; excludes = pair.excludes })
     | inr more ↦ inr (record {
       first = second_of tree assigned i j pair;
@@ -66,11 +65,17 @@ module _ (tree : List Node) (assigned : List ℕ) (work : Work) (start : ℕ →
     })
   ]
 
-  -- what is before another message excludes it
-  a_pair : (version : Version) (i j : ℕ) → started_before version tree assigned start i j → IsOrdered tree assigned i j ⊎ IsOrdered tree assigned j i
-  a_pair V1 i j pair = inl pair
-  a_pair V2 i j pair = inl pair
-  a_pair V3 i j before = elim (cases_order i j) [
+  -- of two messages that exclude each other one is before the other
+  one_before : (version : Version) → AreApart (IsOrdered tree assigned) work start → (i j : ℕ) → IsOrdered tree assigned i j
+      → started_before version tree assigned start i j ⊎ started_before version tree assigned start j i
+  one_before V1 apart i j pair = inl pair
+  one_before V2 apart i j pair = inl pair
+  one_before V3 apart i j pair = one_first apart i j pair
+  one_before V4 apart i j pair = one_first apart i j pair
+
+  -- what starts before another message that it excludes
+  started_pair : (i j : ℕ) → IsStartedBefore tree assigned start i j → IsOrdered tree assigned i j ⊎ IsOrdered tree assigned j i
+  started_pair i j before = elim (cases_order i j) [
     | inl same ↦ absurd (let later : start i < start j = before.precedes in let none : start j < start j = rw same at later in omega (arith, none))
     | inr (inl less) ↦ inl (record { from = before.first.from; earlier = less; to = before.second.to; excludes = before.excludes })
     | inr (inr more) ↦ inr (record {
@@ -80,6 +85,13 @@ module _ (tree : List Node) (assigned : List ℕ) (work : Work) (start : ℕ →
       excludes = excludes_back tree (affinity_of assigned i) (affinity_of assigned j) before.excludes;
     })
   ]
+
+  -- what is before another message excludes it
+  a_pair : (version : Version) (i j : ℕ) → started_before version tree assigned start i j → IsOrdered tree assigned i j ⊎ IsOrdered tree assigned j i
+  a_pair V1 i j pair = inl pair
+  a_pair V2 i j pair = inl pair
+  a_pair V3 i j before = started_pair i j before
+  a_pair V4 i j before = started_pair i j before
 
   module _ (version : Version) (obeys : Obeys (started_before version tree assigned start) work start) (apart : AreApart (IsOrdered tree assigned) work start) where
     -- a plan that obeys the order keeps messages apart that exclude each other

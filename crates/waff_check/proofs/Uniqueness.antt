@@ -4,7 +4,7 @@ use Rattle.std.proofs.lemmas.Bool.{cases_order}
 use Rattle.waff_assign.specs.Order.{Relation}
 use Rattle.waff_check.specs.Faults.{IsFirstPair, IsLeastOf}
 use Rattle.waff_check.specs.Unique.{VerdictIsOne}
-use Rattle.waff_check.specs.Verdicts.{Claim, FinishIsWrong, IsFound, IsFreeOf, IsVerdict, LinkIsBroken, NameIsWrong, PairOverlaps, StartIsEarly, StartIsUnissued, TickIsCrowded, WorkerIsWrong}
+use Rattle.waff_check.specs.Verdicts.{Claim, FinishIsWrong, IsFound, IsFreeOf, IsVerdict, LinkIsBroken, NameIsWrong, PairOverlaps, StartIsEarly, StartIsHeld, StartIsUnissued, TickIsCrowded, WorkerIsWrong}
 use Rattle.waff_check.specs.Verdicts.{stage}
 use Rattle.waff_check.specs.declared.verdict.Verdict.{Verdict}
 use Rattle.waff_check.specs.declared.verdict.Verdict.TheVariants as verdict
@@ -19,6 +19,7 @@ found-or-free claim (verdict.Finish message) found free = free found.holds
 found-or-free claim (verdict.NotAChain place) found free = found.holds.broken (free found.holds.from found.holds.to)
 found-or-free claim (verdict.Early message) found free = free found.holds
 found-or-free claim (verdict.Client message) found free = free found.holds
+found-or-free claim (verdict.After message awaited) found free = free found.least_second.holds
 found-or-free claim verdict.Totals found free = found free
 found-or-free claim verdict.Shortest found free = free found
 found-or-free claim verdict.Tight found free = free found
@@ -68,6 +69,8 @@ of-stage claim verdict.Totals verdict.Totals one other same = refl
 of-stage claim (verdict.NotAChain n) (verdict.NotAChain m) one other same = ap verdict.NotAChain (one_least (LinkIsBroken claim) n m one other)
 of-stage claim (verdict.Early n) (verdict.Early m) one other same = ap verdict.Early (one_least (StartIsEarly claim) n m one other)
 of-stage claim (verdict.Client n) (verdict.Client m) one other same = ap verdict.Client (one_least (StartIsUnissued claim) n m one other)
+of-stage claim (verdict.After i j) (verdict.After n m) one other same =
+    let e = one_pair (StartIsHeld claim) i j n m one other in cc (e.0, e.1)
 of-stage claim verdict.Shortest verdict.Shortest one other same = refl
 of-stage claim verdict.Tight verdict.Tight one other same = refl
 of-stage claim verdict.WithinBound verdict.WithinBound one other same = refl

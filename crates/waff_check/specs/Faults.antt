@@ -1,6 +1,6 @@
 -- What may be wrong with a plan that is given: one definition a fault. `before i j` says that
 -- message j starts only when message i has finished, and `link i j` that a chain may go from i to j.
-use Rattle.std.specs.Prelude.{◌≡◌, ◌≢◌, ◌⊎◌, ℕ, ◌+◌, ◌-◌, ◌<◌, ◌≤◌, List, length, slice_index}
+use Rattle.std.specs.Prelude.{◌≡◌, ◌≢◌, ◌⊎◌, ℕ, ◌-◌, ◌<◌, ◌≤◌, List, length, slice_index}
 use Rattle.std.specs.Prelude.{Bool, false, true, Option, Some, None}
 use Rattle.waff_assign.specs.Order.{Relation}
 use Rattle.waff_plan.specs.Work.{Work, IsAwaited, IsNumber, finish_of, holds_until}
@@ -80,12 +80,16 @@ pub record StartsEarly (work : Work) (start : ℕ → ℕ) (n : ℕ) : Type 0 wh
   pub number : IsNumber work n
   pub early : start n < work.floor n
 
--- a message that starts before it is issued: while one that it awaits holds it back
-pub record StartsUnissued (work : Work) (start : ℕ → ℕ) (n : ℕ) : Type 0 where
+-- a message that starts while this one, which it awaits, holds it back
+pub record StartsHeld (work : Work) (start : ℕ → ℕ) (n awaited : ℕ) : Type 0 where
   pub number : IsNumber work n
-  pub awaited : ℕ
   pub awaits : IsAwaited (work.awaits n) awaited
   pub early : start n < holds_until work start n awaited
+
+-- a message that starts before it is issued: while one that it awaits holds it back
+pub record StartsUnissued (work : Work) (start : ℕ → ℕ) (n : ℕ) : Type 0 where
+  pub awaited : ℕ
+  pub held : StartsHeld work start n awaited
 
 -- the totals of a summary are those of the trace, the starts and the chain; where all releases are
 -- 0, as in a trace of the first version, the release is 0

@@ -1,5 +1,6 @@
 pub mod Faults
 pub mod Crowds
+pub mod Listed
 pub mod Searches
 pub mod Verdicts
 pub mod Claimed

@@ -7,7 +7,7 @@ use Rattle.waff_plan.specs.Apart.{AreApart}
 use Rattle.waff_plan.specs.Bound.{IsWithinBound}
 use Rattle.waff_plan.specs.Chain.{IsChain, chain_cost, chain_release}
 use Rattle.waff_plan.specs.Instances.{served_first, started_first, work_of_instance}
-use Rattle.waff_plan.specs.Obeys.{Obeys}
+use Rattle.waff_plan.specs.Obeys.{AwaitsEarlier, Obeys}
 use Rattle.waff_plan.specs.Work.{length_of}
 use Rattle.waff_plan.specs.Workers.{IsWorkerPlan}
 use Rattle.waff_plan_text.specs.Laws.{plan_told}
@@ -42,7 +42,7 @@ IsFoundShort version claim = IsFoundShortWhere (has_clients version) claim
 -- its length, is found as short as it can be
 abbrev pub OwnPlanIsShortest : Instance → (ℕ → ℕ) → List ℕ → Type 0
 OwnPlanIsShortest instance start chain =
-    length instance.assigned ≡ length instance.trace.messages
+    length instance.assigned ≡ length instance.trace.messages → AwaitsEarlier (work_of_instance instance)
     → Obeys (served_first instance start) (work_of_instance instance) start
     → IsChain (started_first instance start) (work_of_instance instance) chain
     → chain_release (work_of_instance instance) chain + chain_cost (work_of_instance instance) chain
@@ -53,7 +53,7 @@ OwnPlanIsShortest instance start chain =
 -- within the bound
 abbrev pub OwnPlanIsWithinBound : Instance → ℕ → (ℕ → ℕ) → (ℕ → Option ℕ) → List ℕ → Type 0
 OwnPlanIsWithinBound instance k start worker chain =
-    length instance.assigned ≡ length instance.trace.messages
+    length instance.assigned ≡ length instance.trace.messages → AwaitsEarlier (work_of_instance instance)
     → IsWorkerPlan (served_first instance start) (work_of_instance instance) k start
     → AreOneAtATime (work_of_instance instance) start worker k
     → IsChain (started_first instance start) (work_of_instance instance) chain
@@ -65,7 +65,7 @@ OwnPlanIsWithinBound instance k start worker chain =
 -- that exclude each other run at a common tick, is accepted
 abbrev pub OwnPlanIsAccepted : Instance → ℕ → (ℕ → ℕ) → (ℕ → Option ℕ) → List ℕ → Type 0
 OwnPlanIsAccepted instance k start worker chain =
-    length instance.assigned ≡ length instance.trace.messages
+    length instance.assigned ≡ length instance.trace.messages → AwaitsEarlier (work_of_instance instance)
     → IsWorkerPlan (started_first instance start) (work_of_instance instance) k start
     → AreApart (before_in instance) (work_of_instance instance) start
     → AreOneAtATime (work_of_instance instance) start worker k

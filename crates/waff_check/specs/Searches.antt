@@ -1,4 +1,4 @@
--- The search for the first overlap, place by place, and for a link that is none.
+-- The search for the first overlap, place by place, for a link that is none, and for what a list awaits.
 use Rattle.std.specs.Prelude.{ℕ, ◌+◌, ◌<◌, ◌≤◌, Bool, false, true, Option, Some, None}
 use Rattle.waff_model.specs.declared.limits.TheConstants.{MAX_MESSAGES}
 use Rattle.waff_model.specs.Versions.{has_clients}
@@ -9,7 +9,8 @@ use Rattle.waff_plan.specs.Instances.{started_first}
 use Rattle.waff_plan.specs.Planned.{planned_starts, planned_work}
 use Rattle.waff_plan.specs.Work.{Work, finish_of}
 use Rattle.waff_plan.specs.declared.planned.Planned.{Planned}
-use Rattle.waff_check.specs.Faults.{OverlapsWhere, RunTogether}
+use Rattle.waff_check.specs.Faults.{OverlapsWhere, RunTogether, StartsHeld}
+use Rattle.waff_check.specs.Listed.{list_work_of}
 
 -- two messages are at odds, if they exclude each other: the second starts before the first has
 -- finished, or where messages have clients both run at a common tick
@@ -36,6 +37,10 @@ planned_before planned = started_first (instance_of planned.case) (planned_start
 
 abbrev pub planned_links : Planned → Relation
 planned_links planned = IsLinked (planned_before planned) (planned_work planned)
+
+-- the messages that start while one of their list holds them back, each with such a one
+abbrev pub planned_held : Planned → Relation
+planned_held planned = StartsHeld (list_work_of planned.plan.now.timings) (planned_starts planned)
 
 -- i is the place, from 0, of one of the messages, of which there are at most MAX_MESSAGES
 pub record IsSearchable (planned : Planned) (i : ℕ) : Type 0 where

@@ -9,12 +9,14 @@ use Rattle.waff_plan.specs.Chain.{chain_cost, chain_release}
 use Rattle.waff_plan.specs.Instances.{started_first, work_of_instance}
 use Rattle.waff_plan.specs.LowerBound.{lower_bound_of}
 use Rattle.waff_plan.specs.Obeys.{IsLinked}
+use Rattle.waff_plan.specs.Timetable.{client_work_of_messages, timings_of}
 use Rattle.waff_plan.specs.Timing.{start_of}
 use Rattle.waff_plan.specs.Work.{Work, length_of}
 use Rattle.waff_plan_text.specs.Given.{Given, row_at}
 use Rattle.waff_check.specs.Faults.{HasTotals, HasWrongFinish, HasWrongName, HasWrongWorker}
 use Rattle.waff_check.specs.Faults.{IsBroken, IsCrowded, IsFirstPair, IsLeastOf, IsLinkedAt}
-use Rattle.waff_check.specs.Faults.{OverlapsWhere, StartsEarly, StartsUnissued}
+use Rattle.waff_check.specs.Faults.{OverlapsWhere, StartsEarly, StartsHeld, StartsUnissued}
+use Rattle.waff_check.specs.Listed.{list_work_of}
 use Rattle.waff_check.specs.declared.verdict.Verdict.{Verdict}
 use Rattle.waff_check.specs.declared.verdict.Verdict.TheVariants as verdict
 
@@ -38,6 +40,13 @@ version_of claim = claim.instance.trace.version
 
 abbrev pub work_of_claim : Claim → Work
 work_of_claim claim = work_of_instance claim.instance
+
+-- the work by clients alone, and by lists alone
+abbrev pub client_work_of_claim : Claim → Work
+client_work_of_claim claim = client_work_of_messages claim.instance.trace.messages
+
+abbrev pub list_work_of_claim : Claim → Work
+list_work_of_claim claim = list_work_of (timings_of claim.instance.trace.messages)
 
 abbrev pub starts_of : Given → List ℕ
 starts_of plan = map (λ row. row.start) plan.rows
@@ -103,7 +112,10 @@ abbrev pub StartIsEarly : Claim → ℕ → Type 0
 StartIsEarly claim = StartsEarly (work_of_claim claim) (start_in claim)
 
 abbrev pub StartIsUnissued : Claim → ℕ → Type 0
-StartIsUnissued claim = StartsUnissued (work_of_claim claim) (start_in claim)
+StartIsUnissued claim = StartsUnissued (client_work_of_claim claim) (start_in claim)
+
+abbrev pub StartIsHeld : Claim → Relation
+StartIsHeld claim = StartsHeld (list_work_of_claim claim) (start_in claim)
 
 -- the release and the cost of the chain are the length
 abbrev pub ReachesLength : Claim → Type 0
@@ -146,10 +158,11 @@ stage verdict.Totals = 5
 stage (verdict.NotAChain place) = 6
 stage (verdict.Early message) = 7
 stage (verdict.Client message) = 8
-stage verdict.Shortest = 9
-stage verdict.Tight = 10
-stage verdict.WithinBound = 11
-stage verdict.Obeys = 12
+stage (verdict.After message awaited) = 9
+stage verdict.Shortest = 10
+stage verdict.Tight = 11
+stage verdict.WithinBound = 12
+stage verdict.Obeys = 13
 
 -- what a verdict tells does not hold of the plan
 abbrev pub IsFreeOf : Claim → Verdict → Type 0
@@ -162,6 +175,7 @@ IsFreeOf claim verdict.Totals = SumsAreRight claim
 IsFreeOf claim (verdict.NotAChain place) = IsLinkedAt (links_of claim) (chain_in claim) place
 IsFreeOf claim (verdict.Early message) = StartIsEarly claim message → ⊥
 IsFreeOf claim (verdict.Client message) = StartIsUnissued claim message → ⊥
+IsFreeOf claim (verdict.After message awaited) = StartIsHeld claim message awaited → ⊥
 IsFreeOf claim verdict.Shortest = IsShort claim → ⊥
 IsFreeOf claim verdict.Tight = ReachesLength claim → ⊥
 IsFreeOf claim verdict.WithinBound = KeepsBound claim → ⊥
@@ -178,6 +192,7 @@ IsFound claim verdict.Totals = SumsAreRight claim → ⊥
 IsFound claim (verdict.NotAChain place) = IsLeastOf (LinkIsBroken claim) place
 IsFound claim (verdict.Early message) = IsLeastOf (StartIsEarly claim) message
 IsFound claim (verdict.Client message) = IsLeastOf (StartIsUnissued claim) message
+IsFound claim (verdict.After message awaited) = IsFirstPair (StartIsHeld claim) message awaited
 IsFound claim verdict.Shortest = IsShort claim
 IsFound claim verdict.Tight = ReachesLength claim
 IsFound claim verdict.WithinBound = KeepsBound claim
@@ -195,7 +210,11 @@ IsManned claim = IsFreeBelow claim (stage (verdict.Affinity 0))
 abbrev pub IsSummed : Claim → Type 0
 IsSummed claim = IsFreeBelow claim (stage (verdict.NotAChain 0))
 
--- and the chain is one, and each message is issued when it starts: no fault is left
+-- and the chain is one, and no message starts before its release
+abbrev pub IsReleased : Claim → Type 0
+IsReleased claim = IsFreeBelow claim (stage (verdict.Client 0))
+
+-- and each message is issued when it starts: no fault is left
 abbrev pub IsFaultless : Claim → Type 0
 IsFaultless claim = IsFreeBelow claim (stage verdict.Shortest)
 

@@ -3,8 +3,8 @@
 ghost use Rattle.std.specs.Prelude.{◌≡◌, ◌↔◌, ◌+◌, ◌^◌, ◌<◌, length, IfOk, IsTrue};
 ghost use Rattle.waff_assign.specs.Case.{instance_of};
 ghost use Rattle.waff_check.specs.Claimed.{claim_under, claimed};
-ghost use Rattle.waff_check.specs.Verdicts.{IsClaim, IsFaultless, IsManned, IsSummed, IsVerdict};
-ghost use Rattle.waff_check.specs.Verdicts.{IsShort, chain_in, claim_of, lower_bound_in, start_in};
+ghost use Rattle.waff_check.specs.Verdicts.{IsClaim, IsFaultless, IsManned, IsReleased, IsSummed};
+ghost use Rattle.waff_check.specs.Verdicts.{IsShort, IsVerdict, chain_in, claim_of, lower_bound_in, start_in};
 ghost use Rattle.waff_check.specs.Verdicts.{work_of_claim, workers_in};
 ghost use Rattle.waff_plan.specs.Totals.{totals_of};
 ghost use Rattle.waff_check.specs.Promises.{Promises};
@@ -13,7 +13,7 @@ use crate::claim::Claim;
 use crate::crowd::crowded;
 use crate::links::broken_link;
 use crate::overlap::first_overlap;
-use crate::told::{early_start, unissued_start, wrong_finish, wrong_name};
+use crate::told::{early_start, unawaited_start, unissued_start, wrong_finish, wrong_name};
 use crate::totals::has_totals;
 use crate::verdict::Verdict;
 use crate::worker::wrong_worker;
@@ -119,8 +119,19 @@ fn judge_summed(alloc: Global, claim: &Claim<'_>) -> Result<Verdict, AllocError>
     if let Some(message) = early_start(claim.planned.plan) {
         return Ok(Verdict::Early { message });
     }
+    judge_released(alloc, claim)
+}
+
+/// The verdict on a plan whose chain is one, and whose messages do not start before their releases.
+fn judge_released(alloc: Global, claim: &Claim<'_>) -> Result<Verdict, AllocError>
+    requires { IsReleased (claimed claim.now) }
+    ensures { IfOk result (IsVerdict (claimed claim.now)) }
+{
     if let Some(message) = unissued_start(claim.planned.plan) {
         return Ok(Verdict::Client { message });
+    }
+    if let Some((message, awaited)) = unawaited_start(&claim.planned) {
+        return Ok(Verdict::After { message, awaited });
     }
     praise(alloc, claim)
 }

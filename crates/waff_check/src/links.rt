@@ -1,16 +1,17 @@
 //! The chain of a text.
 
-ghost use Rattle.std.specs.Prelude.{◌≡◌, ◌≤◌, ◌↔◌, IsTrue, MatchOption};
+ghost use Rattle.std.specs.Prelude.{◌≡◌, ◌<◌, ◌≤◌, ◌↔◌, IsTrue, MatchOption};
+ghost use Rattle.std.specs.List.{AllPairs};
 ghost use Rattle.waff_plan.specs.Chain.{IsListed};
 ghost use Rattle.waff_plan.specs.Planned.{planned_starts, planned_work};
 ghost use Rattle.waff_plan.specs.Serving.{IsStartedBefore};
-ghost use Rattle.waff_plan.specs.Timetable.{work_in};
 ghost use Rattle.waff_plan.specs.Work.{IsAwaited, IsNumber};
 ghost use Rattle.waff_check.specs.Faults.{AreLinked, IsBroken, IsLeastOf};
 ghost use Rattle.waff_check.specs.Searches.{planned_before, planned_links};
 
 use waff_assign::is_ordered;
-use waff_plan::{Plan, Planned};
+use waff_model::Await;
+use waff_plan::Planned;
 
 /// Whether message `i` starts before message `j`, and they exclude each other.
 fn starts_first(planned: &Planned<'_>, i: u32, j: u32) -> bool
@@ -38,13 +39,27 @@ fn is_before(planned: &Planned<'_>, i: u32, j: u32) -> bool
     }
 }
 
-/// Whether message `i` is one that message `j` awaits.
-fn is_awaited(plan: &Plan, i: u32, j: u32) -> bool
-    requires first { 1 ≤ i }
-    requires second { IsNumber (work_in plan.now) j }
-    ensures { IsTrue result ↔ IsAwaited ((work_in plan.now).awaits j) i }
+/// Whether message `i` stands in a list whose messages rise.
+fn is_listed(after: &[Await], i: u32) -> bool
+    requires rising { AllPairs (λ a b. a.message < b.message) after.now }
+    ensures { IsTrue result ↔ IsAwaited after.now i }
 {
-    plan.follows(j) == i
+    let place = after.partition_point(|awaited| awaited.message < i);
+    match after.get(place) {
+        Some(awaited) => awaited.message == i,
+        None => false,
+    }
+}
+
+/// Whether message `i` is one that message `j` awaits.
+fn is_awaited(planned: &Planned<'_>, i: u32, j: u32) -> bool
+    requires first { 1 ≤ i }
+    requires second { IsNumber (planned_work planned.now) j }
+    ensures { IsTrue result ↔ IsAwaited ((planned_work planned.now).awaits j) i }
+{
+    let _messages = planned.case.trace.len();
+    let plan = planned.plan;
+    plan.follows(j) == i || is_listed(plan.after(j), i)
 }
 
 /// Whether a link goes from message `i` to message `j`: `i` is served before `j`, or `j` awaits it.
@@ -53,7 +68,7 @@ fn is_linked(planned: &Planned<'_>, i: u32, j: u32) -> bool
     requires second { IsNumber (planned_work planned.now) j }
     ensures { IsTrue result ↔ planned_links planned.now i j }
 {
-    is_before(planned, i, j) || is_awaited(planned.plan, i, j)
+    is_before(planned, i, j) || is_awaited(planned, i, j)
 }
 
 /// The first place of a chain, from 2 on, to whose message no link goes from the one before it.

@@ -6,13 +6,13 @@ ghost use Rattle.waff_assign.specs.Instance.{Instance};
 ghost use Rattle.waff_check.specs.OwnPlans.{OwnPlanIsAccepted, OwnPlanIsShortest, OwnPlanIsWithinBound};
 
 /// A plan that obeys the order of its version and tells a chain as long as itself is found shortest, or
-/// in the third version tight.
+/// where messages have clients tight.
 pub fn own_plan_is_shortest()
     ensures verdict { (instance : Instance) (start : ℕ → ℕ) (chain : List ℕ)
         → OwnPlanIsShortest instance start chain }
 {}
 
-/// A worker plan within the bound of the chain that it tells is found shortest, in the third version
+/// A worker plan within the bound of the chain that it tells is found shortest, where messages have clients
 /// tight, or within the bound.
 pub fn own_plan_is_within_bound()
     ensures verdict { (instance : Instance) (k : ℕ)

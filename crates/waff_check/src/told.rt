@@ -1,16 +1,18 @@
 //! Names, finishes and starts that rows tell.
 
-ghost use Rattle.std.specs.Prelude.{◌<◌, ◌↔◌, IsTrue, MatchOption};
+ghost use Rattle.std.specs.Prelude.{◌<◌, ◌↔◌, ℕ, IsTrue, MatchOption};
 ghost use Rattle.waff_assign.specs.Order.{affinity_name};
 ghost use Rattle.waff_plan.specs.Planned.{planned_starts, planned_work};
-ghost use Rattle.waff_plan.specs.Timetable.{starts_in, work_in};
+ghost use Rattle.waff_plan.specs.Timetable.{client_work_in, starts_in, work_in};
 ghost use Rattle.waff_plan.specs.Work.{IsNumber};
-ghost use Rattle.waff_check.specs.Faults.{HasWrongFinish, HasWrongName, IsLeastOf, NoneOf};
+ghost use Rattle.waff_check.specs.Faults.{HasWrongFinish, HasWrongName, IsFirstPair, IsLeastOf, NoneOf};
 ghost use Rattle.waff_check.specs.Faults.{StartsEarly, StartsUnissued};
+ghost use Rattle.waff_check.specs.Searches.{planned_held};
 ghost use Rattle.waff_check.specs.Verdicts.{told_finish, told_name};
 
 use crate::claim::Claim;
-use waff_plan::Plan;
+use waff_model::Await;
+use waff_plan::{Plan, Planned};
 
 /// The first message whose row does not tell the name of its affinity.
 pub(crate) fn wrong_name(claim: &Claim<'_>) -> Option<u32>
@@ -61,8 +63,8 @@ pub(crate) fn early_start(plan: &Plan) -> Option<u32>
 
 /// Whether message `n` follows one, and starts sooner than its think time after the finish of that one.
 fn starts_unissued(plan: &Plan, n: u32) -> bool
-    requires number { IsNumber (work_in plan.now) n }
-    ensures { IsTrue result ↔ StartsUnissued (work_in plan.now) (starts_in plan.now) n }
+    requires number { IsNumber (client_work_in plan.now) n }
+    ensures { IsTrue result ↔ StartsUnissued (client_work_in plan.now) (starts_in plan.now) n }
 {
     let followed = plan.follows(n);
     if followed == 0 {
@@ -74,12 +76,43 @@ fn starts_unissued(plan: &Plan, n: u32) -> bool
 /// The first message that starts before its client issues it.
 pub(crate) fn unissued_start(plan: &Plan) -> Option<u32>
     ensures { MatchOption result
-        (NoneOf (StartsUnissued (work_in plan.now) (starts_in plan.now)))
-        (IsLeastOf (StartsUnissued (work_in plan.now) (starts_in plan.now))) }
+        (NoneOf (StartsUnissued (client_work_in plan.now) (starts_in plan.now)))
+        (IsLeastOf (StartsUnissued (client_work_in plan.now) (starts_in plan.now))) }
 {
     for n in 1..plan.len() + 1 {
         if starts_unissued(plan, n) {
             return Some(n);
+        }
+    }
+    None
+}
+
+/// The first message of the list of message `n` that holds it back when it starts.
+fn unawaited(planned: &Planned<'_>, n: u32) -> Option<u32>
+    requires number { IsNumber (planned_work planned.now) n }
+    ensures { MatchOption result (NoneOf (planned_held planned.now n))
+        (IsLeastOf (planned_held planned.now n)) }
+{
+    let _messages = planned.case.trace.len();
+    let plan = planned.plan;
+    let start = plan.start(n);
+    for awaited in plan.after(n) {
+        let Await { message, gap } = *awaited;
+        if start < plan.finish(message) + u64::from(gap) {
+            return Some(message);
+        }
+    }
+    None
+}
+
+/// The first message that starts while one of its list holds it back, and the first such one of its list.
+pub(crate) fn unawaited_start(planned: &Planned<'_>) -> Option<(u32, u32)>
+    ensures { MatchOption result ((n i : ℕ) → planned_held planned.now n i → ⊥)
+        (λ found. IsFirstPair (planned_held planned.now) found.0 found.1) }
+{
+    for n in 1..planned.plan.len() + 1 {
+        if let Some(awaited) = unawaited(planned, n) {
+            return Some((n, awaited));
         }
     }
     None

@@ -2,11 +2,11 @@
 
 /// What a check finds of a plan that is given: the first fault of the first kind that there is, or
 /// else how good the plan is. Messages are numbered from 1, places of the chain too. `Client` and
-/// `Tight` are found of traces of version 3 alone.
+/// `Tight` are found where messages have clients, `After` where they have lists.
 #[derive(Clone, Copy, Debug, PartialEq)]
 pub enum Verdict {
-    /// An ordered pair of messages the second of which starts before the first has finished; in version
-    /// 3 two messages that exclude each other and run at a common tick.
+    /// An ordered pair of messages the second of which starts before the first has finished; where
+    /// messages have clients two that exclude each other and run at a common tick.
     Overlap { first: u32, second: u32 },
     /// More messages run at this tick than there are workers.
     TooManyAt { tick: u64 },
@@ -22,7 +22,7 @@ pub enum Verdict {
     NotAChain { place: u64 },
     /// No fault; the plan obeys, and no more is known.
     Obeys,
-    /// No fault, and no obeying plan is shorter, in version 3 in whatever order it serves.
+    /// No fault, and no obeying plan is shorter, where messages have clients in whatever order it serves.
     Shortest,
     /// No fault, and the length is within the bound for the workers.
     WithinBound,
@@ -33,4 +33,6 @@ pub enum Verdict {
     Client { message: u32 },
     /// No fault, and no plan that serves messages in the same order is shorter.
     Tight,
+    /// The message starts before this one of its list has finished and the gap behind that has gone by.
+    After { message: u32, awaited: u32 },
 }

@@ -2,18 +2,18 @@
 -- event.
 use Rattle.std.specs.Prelude.{ℕ, ◌+◌, Bool, List, [], ◌∷◌, ◌++◌, Option, Some, None, if◌then◌else◌}
 use Rattle.std.specs.Prelude.{codes, decimal, length, slice_index_or}
-use Rattle.std.specs.List.{flat_map, range_with_len}
+use Rattle.std.specs.List.{flat_map, join_by, range_with_len}
 use Rattle.serde_json.specs.Data.{string}
 use Rattle.serde_json.specs.Written.{compact_text}
 use Rattle.waff_model.specs.Tree.{Node, name_of}
 use Rattle.waff_model.specs.Versions.{has_clients}
 use Rattle.waff_model.specs.declared.message.Version.{Version}
 use Rattle.waff_assign.specs.Order.{affinity_name}
-use Rattle.waff_plan.specs.Work.{numbers}
+use Rattle.waff_plan.specs.Work.{Await, numbers}
 use Rattle.waff_draw.specs.Kinds.{process_of, shown_row}
 use Rattle.waff_draw.specs.Lanes.{is_among, lane_of}
 use Rattle.waff_draw.specs.Pieces.{joined, worker_name}
-use Rattle.waff_draw.specs.Scene.{Scene, client_in, lanes_in, name_in, release_in}
+use Rattle.waff_draw.specs.Scene.{Scene, after_in, client_in, lanes_in, name_in, release_in}
 use Rattle.waff_draw.specs.Scene.{shown_start, shown_ticks, work_of_scene}
 use Rattle.waff_draw.specs.declared.events.Event.{Event}
 use Rattle.waff_draw.specs.declared.lanes.Lane.{Lane}
@@ -84,11 +84,17 @@ client_entry client = codes ",\"client\":" ++ client
 abbrev pub client_text : Version → List ℕ → List ℕ
 client_text version client = if has_clients version then client_entry (quoted client) else []
 
--- a message of this name that runs in the affinity of that name, for this client
-abbrev pub event_text : Version → Event → List ℕ → List ℕ → List ℕ → List ℕ
-event_text version event name affinity client =
+-- the numbers of the messages that a message awaits by its list, where it has one
+abbrev pub after_text : List Await → List ℕ
+after_text [] = []
+after_text (a ∷ more) =
+    codes ",\"after\":[" ++ join_by (λ awaited. decimal awaited.message) (44 ∷ []) (a ∷ more) ++ codes "]"
+
+-- a message of this name that runs in the affinity of that name, for this client, behind those of this list
+abbrev pub event_text : Version → Event → List ℕ → List ℕ → List ℕ → List Await → List ℕ
+event_text version event name affinity client after =
     event_entry event (quoted name) (quoted affinity) ++ decimal event.release
-    ++ client_text version client ++ codes "}}"
+    ++ client_text version client ++ after_text after ++ codes "}}"
 
 -- the thread of the lane in a row, which is one more than the row: 1 is the uppermost
 abbrev pub affinity_thread : List Node → List Lane → ℕ → List ℕ
@@ -120,7 +126,7 @@ event_at scene process row n = record {
 abbrev pub event_in : Scene → ℕ → ℕ → ℕ → List ℕ
 event_in scene process row n =
     event_text scene.instance.trace.version (event_at scene process row n) (name_in scene n)
-    (affinity_name scene.instance.tree scene.instance.assigned n) (client_in scene n)
+    (affinity_name scene.instance.tree scene.instance.assigned n) (client_in scene n) (after_in scene n)
 
 -- the event of message n in its row, if it has one
 abbrev pub event_where : Scene → ℕ → ℕ → Option ℕ → List ℕ

@@ -7,7 +7,7 @@ use Rattle.waff_plan.specs.Clients.{client_of}
 use Rattle.waff_plan.specs.Instances.{work_of_instance}
 use Rattle.waff_plan.specs.Timetable.{clients_of, message_of}
 use Rattle.waff_plan.specs.Timing.{start_of}
-use Rattle.waff_plan.specs.Work.{Work, finish_of, length_of}
+use Rattle.waff_plan.specs.Work.{Await, Work, finish_of, length_of}
 use Rattle.waff_plan_text.specs.Given.{Given}
 use Rattle.waff_draw.specs.Colours.{coloured}
 use Rattle.waff_draw.specs.Lanes.{laned_of, lanes_of}
@@ -98,6 +98,10 @@ name_in scene n = slice_index_or (message_names scene.instance.trace.messages) (
 -- that of its client, `-` where it is of none
 abbrev pub client_in : Scene → ℕ → List ℕ
 client_in scene n = client_of (clients_of scene.instance.trace.messages) n
+
+-- the messages that it awaits by its list
+abbrev pub after_in : Scene → ℕ → List Await
+after_in scene n = (message_of scene.instance.trace.messages n).after
 
 -- its release, as the trace has it
 abbrev pub release_in : Scene → ℕ → ℕ

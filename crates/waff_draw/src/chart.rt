@@ -11,7 +11,7 @@ ghost use Rattle.waff_plan_text.specs.Given.{row_at};
 ghost use Rattle.waff_draw.specs.Colours.{colour_of};
 ghost use Rattle.waff_draw.specs.Kinds.{row_in, shown_row, worker_row};
 ghost use Rattle.waff_draw.specs.Lanes.{is_among, lane_of, row_of};
-ghost use Rattle.waff_draw.specs.Scene.{client_in, coloured_in, end_in, finish_in, from_in};
+ghost use Rattle.waff_draw.specs.Scene.{after_in, client_in, coloured_in, end_in, finish_in, from_in};
 ghost use Rattle.waff_draw.specs.Scene.{lanes_in, length_in};
 ghost use Rattle.waff_draw.specs.Scene.{name_in, place_in, release_in, rows_in, scene_with};
 ghost use Rattle.waff_draw.specs.Scene.{shown_start, shown_ticks, span_in, start_in};
@@ -27,7 +27,7 @@ use std::alloc::{AllocError, Global};
 use std::marker::Model;
 use waff_assign::Case;
 use waff_model::limits::{MAX_MESSAGES, MAX_WORKERS};
-use waff_model::{AffinityId, Version};
+use waff_model::{AffinityId, Await, Version};
 use waff_plan::Plan;
 use waff_plan_text::GivenPlan;
 
@@ -175,6 +175,15 @@ impl<'a> Chart<'a> {
     {
         let trace = self.case.trace;
         trace.message(n).client.as_str()
+    }
+
+    /// The messages that it awaits by its list.
+    pub(crate) fn after(&self, n: u32) -> &[Await]
+        requires { IsNumber (work_of_scene self.now) n }
+        ensures { result.now ≡ after_in self.now n }
+    {
+        let trace = self.case.trace;
+        trace.message(n).after.as_slice()
     }
 
     /// The version of its trace.

@@ -1,18 +1,18 @@
 //! The picture in the Trace Event Format, which Perfetto and the tracing page of Chromium open.
 
-ghost use Rattle.std.specs.Prelude.{◌≡◌, ◌≤◌, IfOk, OnOk, decimal, length, string_bytes};
-ghost use Rattle.std.specs.List.{flat_map, range_with_len};
+ghost use Rattle.std.specs.Prelude.{◌≡◌, ◌≤◌, [], ◌∷◌, IfOk, OnOk, decimal, length, string_bytes};
+ghost use Rattle.std.specs.List.{flat_map, join_by, range_with_len};
 ghost use Rattle.waff_assign.specs.Case.{instance_of};
 ghost use Rattle.waff_assign.specs.Order.{affinity_name};
 ghost use Rattle.waff_plan.specs.Work.{IsNumber};
 ghost use Rattle.waff_plan_text.specs.Lines.{Adds};
-ghost use Rattle.waff_draw.specs.Events.{affinity_thread, category, document_start, event_at};
+ghost use Rattle.waff_draw.specs.Events.{affinity_thread, after_text, category, document_start, event_at};
 ghost use Rattle.waff_draw.specs.Events.{client_entry, client_text, event_entry, event_text};
 ghost use Rattle.waff_draw.specs.Events.{events_of, events_text, quoted};
 ghost use Rattle.waff_draw.specs.Events.{thread_name, thread_place, thread_text, threads_text};
 ghost use Rattle.waff_draw.specs.Events.{worker_thread, worker_threads};
 ghost use Rattle.waff_draw.specs.Kinds.{process_of};
-ghost use Rattle.waff_draw.specs.Scene.{client_in, lanes_in, name_in, scene_of, work_of_scene};
+ghost use Rattle.waff_draw.specs.Scene.{after_in, client_in, lanes_in, name_in, scene_of, work_of_scene};
 
 use crate::chart::Chart;
 use crate::lanes::LaneKind;
@@ -21,7 +21,7 @@ use crate::pieces::LaneName;
 use serde_json::Value;
 use std::alloc::{AllocError, Global};
 use waff_assign::Case;
-use waff_model::Version;
+use waff_model::{Await, Version};
 use waff_plan_text::GivenPlan;
 
 /// The start of the document, with the process whose threads are the lanes of affinities.
@@ -258,13 +258,14 @@ fn push_event(
     ensures { OnOk result (Adds text.old text.new
         (event_text chart.now.instance.trace.version event.now (name_in chart.now n)
         (affinity_name chart.now.instance.tree chart.now.instance.assigned n)
-        (client_in chart.now n))) }
+        (client_in chart.now n) (after_in chart.now n))) }
 {
     let name = json(alloc, chart.name(n))?;
     let affinity = json(alloc, chart.affinity_name(n))?;
     push_event_entry(text, event, name.as_str(), affinity.as_str())?;
     push_number(text, event.release)?;
     push_client(alloc, text, chart.version(), chart.client(n))?;
+    push_after(text, chart.after(n))?;
     text.push_str("}}")
 }
 
@@ -296,6 +297,34 @@ fn push_client_entry(text: &mut String, client: &str) -> Result<(), AllocError>
     ensures { OnOk result (Adds text.old text.new (client_entry client.now)) }
 {
     write!(text, ",\"client\":{client}")
+}
+
+/// Appends the numbers of the messages that a message awaits by its list, where it has one.
+fn push_after(text: &mut String, after: &[Await]) -> Result<(), AllocError>
+    ensures { OnOk result (Adds text.old text.new (after_text after.now)) }
+{
+    if after.is_empty() {
+        return Ok(());
+    }
+    text.push_str(",\"after\":[")?;
+    push_awaited(text, after)?;
+    text.push_str("]")
+}
+
+/// Appends the numbers of these messages, joined by commas.
+fn push_awaited(text: &mut String, awaited: &[Await]) -> Result<(), AllocError>
+    ensures { OnOk result (Adds text.old text.new
+        (join_by (λ a. decimal a.message) (44 ∷ []) awaited.now)) }
+{
+    let Some((first, others)) = awaited.split_first() else {
+        return Ok(());
+    };
+    push_number(text, first.message)?;
+    for other in others {
+        text.push(',')?;
+        push_number(text, other.message)?;
+    }
+    Ok(())
 }
 
 /// Appends an event as far as the release, with its name and that of its affinity as JSON.

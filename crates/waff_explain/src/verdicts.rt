@@ -15,7 +15,7 @@ use crate::words::Words;
 use std::alloc::{AllocError, Global};
 use waff_assign::Case;
 use waff_check::Verdict;
-use waff_model::{Layout, Version};
+use waff_model::{Await, Layout, Version};
 use waff_plan::Totals;
 use waff_plan_text::GivenPlan;
 
@@ -50,6 +50,7 @@ pub fn verdict_words(
 fn push_finding(words: &mut Words, layout: &Layout, hearing: &Hearing<'_>, verdict: Verdict)
     requires { IsFound (claim_of (instance_of hearing.now.case) hearing.now.given.now) verdict }
 {
+    let _messages = hearing.case.trace.len();
     match verdict {
         Verdict::Overlap { first, second } => push_overlap(words, hearing, first, second),
         Verdict::TooManyAt { tick } => push_crowd(words, hearing, tick),
@@ -60,6 +61,7 @@ fn push_finding(words: &mut Words, layout: &Layout, hearing: &Hearing<'_>, verdi
         Verdict::NotAChain { place } => push_no_link(words, hearing, place),
         Verdict::Early { message } => push_early(words, hearing, message),
         Verdict::Client { message } => push_client(words, hearing, message),
+        Verdict::After { message, awaited } => push_after(words, hearing, message, awaited),
         Verdict::Obeys | Verdict::Shortest | Verdict::Tight | Verdict::WithinBound => {
             push_no_fault(words, hearing, verdict);
             push_sizes(words, layout, Some(hearing.case.trace));
@@ -206,6 +208,32 @@ fn push_client(words: &mut Words, hearing: &Hearing<'_>, message: u32)
         message, first.end().saturating_add(think), think);
 }
 
+/// Appends a message of another one's list, and when it has finished.
+fn push_after(words: &mut Words, hearing: &Hearing<'_>, message: u32, awaited: u32)
+    requires number { IsAmongFirst (length hearing.now.case.trace.now.messages) message }
+    requires awaited { IsAmongFirst (length hearing.now.case.trace.now.messages) awaited }
+{
+    let (heard, first) = (hearing.message(message), hearing.message(awaited));
+    let gap = gap_behind(heard.message.after.as_slice(), awaited);
+    hearing.push_message(words, &first);
+    hearing.push_message(words, &heard);
+    say!(words; Found:
+        "message {} starts at {}, and message {}, which stands in its `after`, has finished at {}",
+        message, heard.row.start, awaited, first.end());
+    say!(words; Wanted: "message {} starts at {} or later, the gap of {} after that",
+        message, first.end().saturating_add(gap), gap);
+}
+
+/// The gap behind this message of a list, 0 where it does not stand there.
+fn gap_behind(after: &[Await], message: u32) -> u64 {
+    for awaited in after {
+        if awaited.message == message {
+            return u64::from(awaited.gap);
+        }
+    }
+    0
+}
+
 /// Appends the lines of the summary that are wrong.
 fn push_totals(words: &mut Words, hearing: &Hearing<'_>) {
     push_line(words, hearing.bytes, "workers");
@@ -254,7 +282,17 @@ fn push_no_link(words: &mut Words, hearing: &Hearing<'_>, place: u64)
              exclude each other",
             message, place, before),
     }
-    if version.has_clients() {
+    push_wanted_link(words, version, before);
+}
+
+/// Appends what should stand behind this message of a chain.
+fn push_wanted_link(words: &mut Words, version: Version, before: u32) {
+    if version.has_after() {
+        say!(words; Wanted:
+            "a message that starts after message {}, their affinities exclude each other, or one \
+             that awaits it",
+            before);
+    } else if version.has_clients() {
         say!(words; Wanted:
             "a message that starts after message {}, their affinities exclude each other, or the \
              next one of its client",
@@ -275,8 +313,8 @@ fn push_no_fault(words: &mut Words, hearing: &Hearing<'_>, verdict: Verdict) {
         right,
         ..
     } = hearing.given.summary().totals;
-    match (verdict, hearing.version()) {
-        (Verdict::Shortest, Version::V3) => say!(words; Found:
+    match (verdict, hearing.version().has_clients()) {
+        (Verdict::Shortest, true) => say!(words; Found:
             "no fault, and no plan that obeys, for as many workers, is shorter than the length {}",
             length),
         (Verdict::Shortest, _) => say!(words; Found:

@@ -2,10 +2,11 @@
 use Rattle.std.proofs.Common.{◌≡◌, ℕ, ◌*◌, ◌≤◌, length, [], ◌∷◌, ◌++◌, Option, Some, None, IfSome, codes, decimal, arith, sym, ◌∙◌, ap}
 use Rattle.std.proofs.lemmas.Fmt.{decimal_digit}
 use Rattle.std.proofs.Math.Nat.{mul-le-mul_left}
+use Rattle.waff_model.specs.Messages.{IsTrace}
 use Rattle.waff_model.specs.Tree.{IsTree}
 use Rattle.waff_model.specs.Versions.{has_clients}
 use Rattle.waff_model.specs.declared.message.Version.{Version}
-use Rattle.waff_model.specs.declared.message.Version.TheVariants.{V1, V2, V3}
+use Rattle.waff_model.specs.declared.message.Version.TheVariants.{V1, V2, V3, V4}
 use Rattle.waff_assign.specs.Instance.{Instance, before_in}
 use Rattle.waff_assign.specs.Order.{Relation}
 use Rattle.waff_plan.specs.Bound.{IsWorkers}
@@ -14,10 +15,8 @@ use Rattle.waff_plan.specs.Laws.{LeastIsShortest, NoneIsShorter}
 use Rattle.waff_plan.specs.LowerBound.{NoneIsBelow}
 use Rattle.waff_plan.specs.Obeys.{AwaitsEarlier, IsLeast}
 use Rattle.waff_plan.specs.Serving.{served_before}
-use Rattle.waff_plan.specs.Timetable.{clients_of}
 use Rattle.waff_plan.specs.Work.{Work, length_of, total_of}
-use Rattle.waff_plan.proofs.ClientLemmas.{client_follows_earlier}
-use Rattle.waff_plan.proofs.TimingLemmas.{length-timings_of, timings_follow_clients}
+use Rattle.waff_plan.proofs.TimingLemmas.{are_timings, length-timings_of}
 use Rattle.waff_plan_text.specs.Ratio.{RatioUpIsUpperBound, hundredths_field}
 use Rattle.waff_figures.specs.declared.figures.Figures.{Figures}
 use Rattle.waff_figures.specs.Least.{IsRivalWhere, LeastIsLowerBound, ObeysFor, OneIsShortest, OverIsUpperBound, least_of, least_where}
@@ -29,10 +28,9 @@ least_in_order : (limit : Option ℕ) (before : Relation) (work : Work) → Leas
 least_in_order None before work shortest shared start other known least obeys = shortest start other least obeys
 least_in_order (Some k) before work shortest shared start other known least plan = shared k start other known.from least plan
 
--- what a message awaits comes earlier
-pub follows_in : (instance : Instance) → AwaitsEarlier (work_of_instance instance)
-follows_in instance =
-    client_follows_earlier (clients_of instance.trace.messages) (work_of_instance instance) (timings_follow_clients instance.trace.messages)
+-- what a message of a trace awaits comes earlier
+pub follows_in : (instance : Instance) → IsTrace instance.trace → AwaitsEarlier (work_of_instance instance)
+follows_in instance is = (are_timings instance.trace is).earlier
 
 module _ (instance : Instance) (shortest : LeastIsShortest (before_in instance) (work_of_instance instance))
     (shared : NoneIsShorter (before_in instance) (work_of_instance instance))
@@ -41,16 +39,19 @@ module _ (instance : Instance) (shortest : LeastIsShortest (before_in instance) 
   work = work_of_instance instance
 
   by_version : (version : Version) (limit : Option ℕ) (start other : ℕ → ℕ) → IfSome limit IsWorkers → IsTree instance.tree
-      → length instance.assigned ≡ length instance.trace.messages
+      → length instance.assigned ≡ length instance.trace.messages → AwaitsEarlier work
       → IsLeast (served_before version instance.tree instance.assigned work start) work start → IsRivalWhere (has_clients version) limit instance other
       → least_where (has_clients version) limit instance (length_of work start) ≤ length_of work other
-  by_version V1 limit start other known tree count least rival = least_in_order limit (before_in instance) work shortest shared start other known least rival
-  by_version V2 limit start other known tree count least rival = least_in_order limit (before_in instance) work shortest shared start other known least rival
-  by_version V3 limit start other known tree count least rival =
-      below limit tree (count ∙ sym (length-timings_of instance.trace.messages)) known (follows_in instance) other rival
+  by_version V1 limit start other known tree count earlier least rival = least_in_order limit (before_in instance) work shortest shared start other known least rival
+  by_version V2 limit start other known tree count earlier least rival = least_in_order limit (before_in instance) work shortest shared start other known least rival
+  by_version V3 limit start other known tree count earlier least rival =
+      below limit tree (count ∙ sym (length-timings_of instance.trace.messages)) known earlier other rival
+  by_version V4 limit start other known tree count earlier least rival =
+      below limit tree (count ∙ sym (length-timings_of instance.trace.messages)) known earlier other rival
 
   pub least_is_lower_bound : LeastIsLowerBound instance
-  least_is_lower_bound limit start known tree count least other rival = by_version instance.trace.version limit start other known tree count least rival
+  least_is_lower_bound limit start known tree count earlier least other rival =
+      by_version instance.trace.version limit start other known tree count earlier least rival
 
 pub over_is_upper_bound : (instance : Instance) → RatioUpIsUpperBound → OverIsUpperBound instance
 over_is_upper_bound instance ratio limit least over start other figures is small bound fits printed rival =

@@ -4,7 +4,7 @@ use Rattle.std.proofs.lemmas.Bool.{false≢true}
 use Rattle.waff_model.specs.Tree.{Node}
 use Rattle.waff_model.specs.Versions.{has_clients}
 use Rattle.waff_model.specs.declared.message.Version.{Version}
-use Rattle.waff_model.specs.declared.message.Version.TheVariants.{V1, V2, V3}
+use Rattle.waff_model.specs.declared.message.Version.TheVariants.{V1, V2, V3, V4}
 use Rattle.waff_assign.specs.Order.{IsOrdered}
 use Rattle.waff_plan.specs.Work.{Work}
 use Rattle.waff_list.specs.Rules.{IsPlanBy}
@@ -16,3 +16,4 @@ pub served_in_order : (version : Version) → has_clients version ≡ false → 
 served_in_order V1 none rule tree assigned work k start plan = plan
 served_in_order V2 none rule tree assigned work k start plan = plan
 served_in_order V3 none rule tree assigned work k start plan = absurd (false≢true (sym none))
+served_in_order V4 none rule tree assigned work k start plan = absurd (false≢true (sym none))

@@ -7,7 +7,7 @@ use Rattle.std.proofs.lemmas.List.Elements.{All-nil, All-push}
 use Rattle.std.proofs.lemmas.List.Quantifiers.{all_pairs_push}
 use Rattle.waff_model.specs.Tree.{Node}
 use Rattle.waff_model.specs.declared.message.Version.{Version}
-use Rattle.waff_model.specs.declared.message.Version.TheVariants.{V1, V2, V3}
+use Rattle.waff_model.specs.declared.message.Version.TheVariants.{V1, V2, V3, V4}
 use Rattle.waff_assign.specs.Order.{Relation}
 use Rattle.waff_plan.specs.Serving.{started_before}
 use Rattle.waff_plan.specs.Waited.{AreWaitedFor, IsWaitedFor}
@@ -141,6 +141,7 @@ pub first_known : (version : Version) (tree : List Node) (assigned : List ℕ) (
 first_known V1 tree assigned start i m pair = record { from = pair.from; to = omega (arith, pair.earlier, pair.to) }
 first_known V2 tree assigned start i m pair = record { from = pair.from; to = omega (arith, pair.earlier, pair.to) }
 first_known V3 tree assigned start i m pair = pair.first
+first_known V4 tree assigned start i m pair = pair.first
 
 -- a message waited for one of the messages
 module _ (before : Relation) (count : ℕ) (known : (i m : ℕ) → before i m → IsAmongFirst count i) (work : Work) (start : ℕ → ℕ) where

@@ -12,7 +12,7 @@ use Rattle.waff_plan.specs.Work.{Work, IsNumber, finish_of, issue_of, numbers}
 use Rattle.waff_plan.proofs.Holding.{awaited-le-issue}
 use Rattle.waff_plan.proofs.Longest.{sum_more}
 use Rattle.waff_figures.specs.Waits.{AreWaits, ready_of, wait_of, waits_in}
-use Rattle.waff_figures.specs.WaitLaws.{OwnClientIsNoWait, ReadyIsGreatest, TicksAddUp, WaitsAddUp, WaitsAreOnce}
+use Rattle.waff_figures.specs.WaitLaws.{AwaitingIsNoWait, ReadyIsGreatest, TicksAddUp, WaitsAddUp, WaitsAreOnce}
 use Rattle.waff_figures.specs.Groups.{firsts_by}
 use Rattle.waff_figures.specs.WaitRows.{row_of, rows_by, same_kind}
 use Rattle.waff_figures.specs.declared.wait_rows.Row.{Row}
@@ -132,8 +132,8 @@ none_of m (w ∷ ws) some none =
     omega (arith, first, ticks, all))
     (none_of m ws (All-tail (λ (wait : Wait). 0 < wait.ticks) w ws some) (omega (arith, cons, none)))
 
-pub own_client_is_no_wait : (before : ℕ → ℕ → Type 0) (work : Work) (start : ℕ → ℕ) → OwnClientIsNoWait before work start
-own_client_is_no_wait before work start waits i m are obeys number awaited at_once =
+pub awaiting_is_no_wait : (before : ℕ → ℕ → Type 0) (work : Work) (start : ℕ → ℕ) → AwaitingIsNoWait before work start
+awaiting_is_no_wait before work start waits i m are obeys number awaited at_once =
     let issued = awaited-le-issue work start i m awaited in
     let all = one_adds_up before work start waits are obeys m number in
     none_of m waits (subst (All (λ wait. 0 < wait.ticks)) (sym are.waits_are) (some_upto work start are.links work.count))

@@ -8,10 +8,10 @@ use Rattle.std.proofs.lemmas.List.Sorted.{Contains-permutation, IsPermutation-sy
 use Rattle.waff_model.specs.Tree.{Node}
 use Rattle.waff_model.specs.Unique.{AtMostOne}
 use Rattle.waff_model.specs.declared.message.Version.{Version}
-use Rattle.waff_model.specs.declared.message.Version.TheVariants.{V1, V2, V3}
+use Rattle.waff_model.specs.declared.message.Version.TheVariants.{V1, V2, V3, V4}
 use Rattle.waff_assign.specs.Order.{Relation, affinity_of}
 use Rattle.waff_plan.specs.Obeys.{AwaitsEarlier}
-use Rattle.waff_plan.specs.Serving.{started_before}
+use Rattle.waff_plan.specs.Serving.{IsStartedBefore, started_before}
 use Rattle.waff_plan.specs.Unique.{AreSame}
 use Rattle.waff_plan.specs.Waited.{AreWaitedFor, IsWaitedFor}
 use Rattle.waff_plan.specs.Work.{Work, IsNumber, finish_of, issue_of}
@@ -138,14 +138,19 @@ module _ (before again : Relation) (work : Work) (start : ℕ → ℕ) (into : (
   }
 
 -- plans with the same starts start first what the other does
+starts_same : (tree : List Node) (assigned : List ℕ) (work : Work) → length assigned ≡ work.count → (start other : ℕ → ℕ) → AreSame work start other
+    → (i j : ℕ) → IsStartedBefore tree assigned start i j → IsStartedBefore tree assigned other i j
+starts_same tree assigned work count start other same i j pair =
+    let one = same i (record { from = pair.first.from; to = omega (arith, pair.first.to, count) }) in
+    let two = same j (record { from = pair.second.from; to = omega (arith, pair.second.to, count) }) in
+    record { first = pair.first; second = pair.second; precedes = omega (arith, pair.precedes, one, two); excludes = pair.excludes }
+
 pub started_same : (version : Version) (tree : List Node) (assigned : List ℕ) (work : Work) → length assigned ≡ work.count → (start other : ℕ → ℕ)
     → AreSame work start other → (i j : ℕ) → started_before version tree assigned start i j → started_before version tree assigned other i j
 started_same V1 tree assigned work count start other same i j pair = pair
 started_same V2 tree assigned work count start other same i j pair = pair
-started_same V3 tree assigned work count start other same i j pair =
-    let one = same i (record { from = pair.first.from; to = omega (arith, pair.first.to, count) }) in
-    let two = same j (record { from = pair.second.from; to = omega (arith, pair.second.to, count) }) in
-    record { first = pair.first; second = pair.second; precedes = omega (arith, pair.precedes, one, two); excludes = pair.excludes }
+started_same V3 tree assigned work count start other same i j pair = starts_same tree assigned work count start other same i j pair
+started_same V4 tree assigned work count start other same i j pair = starts_same tree assigned work count start other same i j pair
 
 pub rows_are_one : (version : Version) (tree : List Node) (assigned : List ℕ) (work : Work) → RowsAreOne version tree assigned work
 rows_are_one version tree assigned work alike start other waits other_waits rows other_rows count follows same are other_are told other_told =

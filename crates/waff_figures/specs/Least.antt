@@ -9,7 +9,7 @@ use Rattle.waff_plan.specs.Bound.{IsWorkers}
 use Rattle.waff_plan.specs.Instances.{served_first, work_of_instance}
 use Rattle.waff_plan.specs.Laws.{least_for}
 use Rattle.waff_plan.specs.LowerBound.{ObeysInSomeOrder, lower_bound_of}
-use Rattle.waff_plan.specs.Obeys.{IsLeast, Obeys}
+use Rattle.waff_plan.specs.Obeys.{AwaitsEarlier, IsLeast, Obeys}
 use Rattle.waff_plan.specs.Work.{Work, length_of, total_of}
 use Rattle.waff_plan.specs.Workers.{IsWorkerPlan}
 use Rattle.waff_plan_text.specs.Ratio.{hundredths_field, ratio_up_field}
@@ -44,7 +44,8 @@ least_of None total shortest = shortest
 least_of (Some k) total shortest = least_for k total shortest
 
 -- such a number of ticks, where the unlimited plan is this long: where messages have clients by what
--- workers, clients and paths of affinities need in whatever order, else by that length
+-- workers, messages that await one another and paths of affinities need in whatever order, else by that
+-- length
 abbrev pub least_where : Bool → Option ℕ → Instance → ℕ → ℕ
 least_where false limit instance shortest =
     least_of limit (total_of (work_of_instance instance)) shortest
@@ -60,6 +61,7 @@ abbrev pub LeastIsLowerBound : Instance → Type 0
 LeastIsLowerBound instance =
     (limit : Option ℕ) (start : ℕ → ℕ) → IfSome limit IsWorkers → IsTree instance.tree
     → length instance.assigned ≡ length instance.trace.messages
+    → AwaitsEarlier (work_of_instance instance)
     → IsLeast (served_first instance start) (work_of_instance instance) start
     → IsLowerBound limit instance
     (least_in limit instance (length_of (work_of_instance instance) start))

@@ -38,10 +38,10 @@ WaitsAddUp before work start =
     → sum_by (λ wait. if wait.message == m then wait.ticks else 0) waits
     ≡ start m - issue_of work start m
 
--- waiting for the own client is no wait: a message that starts as soon as one that it awaits holds it
--- back no longer waits for nobody
-abbrev pub OwnClientIsNoWait : Relation → Work → (ℕ → ℕ) → Type 0
-OwnClientIsNoWait before work start =
+-- waiting for what a message awaits is no wait: a message that starts as soon as one that it awaits, by its
+-- client or by its list, holds it back no longer waits for nobody
+abbrev pub AwaitingIsNoWait : Relation → Work → (ℕ → ℕ) → Type 0
+AwaitingIsNoWait before work start =
     (waits : List Wait) (i m : ℕ) → AreWaits before work start waits → Obeys before work start
     → IsNumber work m → IsAwaited (work.awaits m) i → start m ≡ holds_until work start m i
     → All (λ wait. wait.message ≢ m) waits

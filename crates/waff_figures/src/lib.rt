@@ -18,8 +18,8 @@
 //! No plan that obeys for as many workers is shorter than `least`, and a plan is at most `over`
 //! times as long as any of them. Columns add up: messages and costs of the affinities to those of
 //! the trace, waits of messages to those of the plan, and what is on a chain to its cost. Waiting
-//! for the own client is no wait. Sums are made in one pass from the last affinity to the first,
-//! and names are found in a table: that is not promised.
+//! for what a message awaits, by its client or by its list, is no wait. Sums are made in one pass from
+//! the last affinity to the first, and names are found in a table: that is not promised.
 //!
 //! Tests: the command cases `sweep-*` and `rate-*` (the samples, the trace of no message, plans
 //! that do not obey), `waits-*` (a line that messages share, and names that are `-`), `where-*`

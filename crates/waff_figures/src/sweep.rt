@@ -138,6 +138,7 @@ fn figures_for(
         (length_of (planned_work unlimited.now) (planned_starts unlimited.now))) }
 {
     let _affinities = unlimited.case.tree.len();
+    let _messages = unlimited.case.trace.len();
     let _fits = k.number();
     let made = planned_for(alloc, unlimited.case, needs, rule, k)?;
     least_is_lower_bound();

@@ -7,7 +7,7 @@ ghost use Rattle.waff_model.specs.Tree.{Node};
 ghost use Rattle.waff_model.specs.declared.message.Version.{Version};
 ghost use Rattle.waff_plan.specs.Serving.{started_before};
 ghost use Rattle.waff_plan.specs.Work.{Work};
-ghost use Rattle.waff_figures.specs.WaitLaws.{OwnClientIsNoWait, ReadyIsGreatest, RowsAreOne};
+ghost use Rattle.waff_figures.specs.WaitLaws.{AwaitingIsNoWait, ReadyIsGreatest, RowsAreOne};
 ghost use Rattle.waff_figures.specs.WaitLaws.{TicksAddUp, WaitsAddUp, WaitsAreOnce};
 
 /// A message waits for another one until the greatest of its issue and the finishes of the messages
@@ -25,9 +25,9 @@ pub fn waits_add_up()
 
 /// In a plan that obeys, a message that starts as soon as one that it awaits holds it back no longer waits for
 /// nobody.
-pub fn own_client_is_no_wait()
+pub fn awaiting_is_no_wait()
     ensures { (version : Version) (tree : List Node) (assigned : List ℕ) (work : Work)
-        (start : ℕ → ℕ) → OwnClientIsNoWait (started_before version tree assigned start) work start }
+        (start : ℕ → ℕ) → AwaitingIsNoWait (started_before version tree assigned start) work start }
 {}
 
 /// Each wait is told of in one row.

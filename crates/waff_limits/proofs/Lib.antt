@@ -4,6 +4,7 @@ pub mod DataLaws
 pub mod EdgeLemmas
 pub mod WalkLemmas
 pub mod LimitLemmas
+mod AfterLaws
 pub mod FirstCells
 pub mod LiftLemmas
 pub mod LiftedLists

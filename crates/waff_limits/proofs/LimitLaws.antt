@@ -8,7 +8,7 @@ use Rattle.waff_model.specs.Tree.{IsTree}
 use Rattle.waff_model.specs.Versions.{has_clients}
 use Rattle.waff_model.specs.declared.cell.Cell.{Cell}
 use Rattle.waff_model.specs.declared.message.Version.{Version}
-use Rattle.waff_model.specs.declared.message.Version.TheVariants.{V1, V2, V3}
+use Rattle.waff_model.specs.declared.message.Version.TheVariants.{V1, V2, V3, V4}
 use Rattle.waff_assign.specs.Instance.{Instance}
 use Rattle.waff_assign.specs.Order.{IsOrdered, affinity_of}
 use Rattle.waff_assign.proofs.Knowing.{affinity_known}
@@ -19,23 +19,24 @@ use Rattle.waff_plan.specs.LowerBound.{ObeysInSomeOrder, earliest_finish, lower_
 use Rattle.waff_plan.specs.Obeys.{EachRuns, IsLeast, Obeys}
 use Rattle.waff_plan.specs.Peak.{IsPeak}
 use Rattle.waff_plan.specs.Serving.{IsStartedBefore, served_before}
-use Rattle.waff_plan.specs.Timetable.{AreTimings, message_of, no_message, timings_of}
+use Rattle.waff_plan.specs.Timetable.{AreTimings, client_work_of_messages, message_of, no_message, timings_of}
 use Rattle.waff_plan.specs.TreeStarts.{TreeIsReached, tree_start}
 use Rattle.waff_plan.specs.Work.{IsAmongFirst, IsNumber, Work, greatest, length_of, total_of}
 use Rattle.waff_plan.specs.declared.peak.Peak.{Peak}
 use Rattle.waff_plan.proofs.ApartLaws.{apart_where_finished}
 use Rattle.waff_plan.proofs.Chains.{least_is_shortest}
-use Rattle.waff_plan.proofs.LowerBounds.{client_is, none_is_below}
+use Rattle.waff_plan.proofs.LowerBounds.{earliest_is, none_is_below}
 use Rattle.waff_plan.proofs.ServingLemmas.{each_runs, least_started}
 use Rattle.waff_plan.proofs.StartOrder.{served_apart, serving_obeys}
-use Rattle.waff_plan.proofs.TimingLemmas.{are_timings, floor_alone, length-timings_of, timings_alone}
+use Rattle.waff_plan.proofs.TimingLemmas.{are_timings, awaits_client, floor_alone, length-timings_of, timings_alone}
 use Rattle.waff_plan.proofs.Uniqueness.{same_length}
 use Rattle.waff_figures.proofs.LeastLaws.{follows_in}
 use Rattle.waff_limits.specs.Data.{ComesBefore, IsMost, IsMostOf, ticks_on}
-use Rattle.waff_limits.specs.Laws.{ClientsFinish, IsUnder, KeepsOrderWhere, LimitsAreLowerBound, LimitsAreOne, NoneIsBelowLimits, OrderIsNotBelow, OrderIsShortest, PathIsReached, StartsAtOnce, greatest_limit}
+use Rattle.waff_limits.specs.Laws.{ClientsFinish, IsUnder, KeepsOrderWhere, LimitsAreLowerBound, LimitsAreOne, NoListsAddNothing, NoneIsBelowLimits, OrderIsNotBelow, OrderIsShortest, PathIsReached, StartsAtOnce, greatest_limit}
 use Rattle.waff_limits.specs.Limits.{AreLimits, ticks_of}
 use Rattle.waff_limits.specs.declared.data.CellUse.{CellUse}
 use Rattle.waff_limits.specs.declared.limits.Limits.{Limits}
+use Rattle.waff_limits.proofs.AfterLaws.{after_is_not_below, finish_same, peak_again}
 use Rattle.waff_limits.proofs.Cells.{cases_cell, is_turned}
 use Rattle.waff_limits.proofs.DataLaws.{data_bounds}
 use Rattle.waff_limits.proofs.LimitLemmas.{most_used_is_cell}
@@ -77,23 +78,27 @@ module _ (instance : Instance) (layout : Hierarchy) (under : IsUnder layout inst
       let share : share_in workers limits.total ≡ share_in workers (total_of work) = ap (share_in workers) are.total in
       let below : ticks_of limits.cell ≤ limits.path.ticks = subst (λ n. ticks_of limits.cell ≤ n) (sym are.path.ticks) (cell_below limits.cell are.cell) in
       let shared = writes_below instance.trace.messages limits.writes limits.cell are.writes are.cell in
+      let listed : limits.client.ticks ≤ limits.after.ticks = after_is_not_below instance start limits are in
       let most : max (ticks_of limits.writes) (max (ticks_of limits.cell) limits.path.ticks) ≡ limits.path.ticks = omega (arith, below, shared) in
       let cells : ℕ = max (ticks_of limits.writes) (max (ticks_of limits.cell) limits.path.ticks) in
-      ap (λ n. max n (max limits.client.ticks cells)) share
-      ∙ ap (λ n. max (share_in workers (total_of work)) (max n cells)) are.client.ticks
+      let awaited : max limits.client.ticks (max limits.after.ticks cells) ≡ max limits.after.ticks cells = omega (arith, listed) in
+      ap (λ n. max n (max limits.client.ticks (max limits.after.ticks cells))) share
+      ∙ ap (max (share_in workers (total_of work))) awaited
+      ∙ ap (λ n. max (share_in workers (total_of work)) (max n cells)) are.after.ticks
       ∙ ap (λ n. max (share_in workers (total_of work)) (max (greatest (map (earliest_finish work) (range_with_len 1 work.count))) n)) (most ∙ are.path.ticks)
 
   pub none_below : (workers : Option ℕ) (start other : ℕ → ℕ) (limits : Limits) → IfSome workers IsWorkers → AreLimits instance start limits
       → ObeysInSomeOrder instance.tree instance.assigned work workers other → greatest_limit workers limits ≤ length_of work other
   none_below workers start other limits known are obeys =
       subst (λ n. n ≤ length_of work other) (sym (is_lower_bound workers start limits are))
-      (none_is_below workers instance.tree instance.assigned work is_tree count known (follows_in instance) other obeys)
+      (none_is_below workers instance.tree instance.assigned work is_tree count known (follows_in instance under.is_trace) other obeys)
 
   apart_by : (version : Version) (start : ℕ → ℕ) → Obeys (served_before version instance.tree instance.assigned work start) work start
       → AreApart (IsOrdered instance.tree instance.assigned) work start
   apart_by V1 start obeys = λ i j pair. apart_where_finished work start i j (obeys.ordered i j pair.ordered) pair.together
   apart_by V2 start obeys = λ i j pair. apart_where_finished work start i j (obeys.ordered i j pair.ordered) pair.together
   apart_by V3 start obeys = served_apart instance.tree instance.assigned work count runs start obeys
+  apart_by V4 start obeys = served_apart instance.tree instance.assigned work count runs start obeys
 
   no_number : (k : ℕ) → None ≡ Some k → ⊥
   no_number k is = cc
@@ -118,6 +123,10 @@ module _ (instance : Instance) (layout : Hierarchy) (under : IsUnder layout inst
   shortest_by V3 start other are least keeps =
       least_is_shortest (IsStartedBefore instance.tree instance.assigned start) work start other
       (least_started instance.tree instance.assigned (timings_of instance.trace.messages) start (sym count) V3 are least)
+      (serving_obeys instance.tree instance.assigned work count runs start other keeps)
+  shortest_by V4 start other are least keeps =
+      least_is_shortest (IsStartedBefore instance.tree instance.assigned start) work start other
+      (least_started instance.tree instance.assigned (timings_of instance.trace.messages) start (sym count) V4 are least)
       (serving_obeys instance.tree instance.assigned work count runs start other keeps)
 
   pub shortest : (start other : ℕ → ℕ) (limits : Limits) → IsLeast (served_first instance start) work start → AreLimits instance start limits
@@ -148,7 +157,8 @@ module _ (instance : Instance) (layout : Hierarchy) (under : IsUnder layout inst
         → (other : ℕ → ℕ) × ObeysInSomeOrder instance.tree instance.assigned work None other × (length_of work other ≡ limits.path.ticks)
     reached law start limits are =
         let met = law is_tree count known
-        (timings_alone instance.trace.messages (λ m number. let message = at_once m number in message.no_client)) no_floor in
+        (timings_alone instance.trace.messages (λ m number. let message = at_once m number in message.no_client)
+        (λ m number. let message = at_once m number in message.no_list)) no_floor in
         (tree_start instance.tree instance.assigned work, met.0, met.1 ∙ sym are.path.ticks)
 
 -- a peak is one
@@ -213,29 +223,40 @@ module _ (used : Cell → ℕ) where
   most_of_is_one (Some one) None p q = absurd (omega (arith, q one.cell, p.ticks, p.some))
   most_of_is_one (Some one) (Some other) p q = ap Some (most_is_one one other p q)
 
-limits_with : ℕ → Peak → Option CellUse → Option CellUse → Peak → ℕ → Limits
-limits_with total client writes cell path order =
-    record { total = total; client = client; writes = writes; cell = cell; path = path; order = order }
+limits_with : ℕ → Peak → Peak → Option CellUse → Option CellUse → Peak → ℕ → Limits
+limits_with total client after writes cell path order =
+    record { total = total; client = client; after = after; writes = writes; cell = cell; path = path; order = order }
 
-same_limits : (one other : Limits) → one.total ≡ other.total → one.client ≡ other.client → one.writes ≡ other.writes → one.cell ≡ other.cell → one.path ≡ other.path → one.order ≡ other.order → one ≡ other
+same_limits : (one other : Limits) → one.total ≡ other.total → one.client ≡ other.client → one.after ≡ other.after → one.writes ≡ other.writes → one.cell ≡ other.cell → one.path ≡ other.path → one.order ≡ other.order → one ≡ other
 unfolding limits_with
-same_limits one other totals clients writes cells paths orders =
-    ap (λ t. limits_with t one.client one.writes one.cell one.path one.order) totals
-    ∙ ap (λ c. limits_with other.total c one.writes one.cell one.path one.order) clients
-    ∙ ap (λ c. limits_with other.total other.client c one.cell one.path one.order) writes
-    ∙ ap (λ c. limits_with other.total other.client other.writes c one.path one.order) cells
-    ∙ ap (λ p. limits_with other.total other.client other.writes other.cell p one.order) paths
-    ∙ ap (limits_with other.total other.client other.writes other.cell other.path) orders
+same_limits one other totals clients lists writes cells paths orders =
+    ap (λ t. limits_with t one.client one.after one.writes one.cell one.path one.order) totals
+    ∙ ap (λ c. limits_with other.total c one.after one.writes one.cell one.path one.order) clients
+    ∙ ap (λ a. limits_with other.total other.client a one.writes one.cell one.path one.order) lists
+    ∙ ap (λ c. limits_with other.total other.client other.after c one.cell one.path one.order) writes
+    ∙ ap (λ c. limits_with other.total other.client other.after other.writes c one.path one.order) cells
+    ∙ ap (λ p. limits_with other.total other.client other.after other.writes other.cell p one.order) paths
+    ∙ ap (limits_with other.total other.client other.after other.writes other.cell other.path) orders
 
 pub limits_are_one : (instance : Instance) → LimitsAreOne instance
 limits_are_one instance start other one another same p q =
     let work = work_of_instance instance in
     same_limits one another (p.total ∙ sym q.total)
-    (peak_is_one (earliest_finish work) 1 work.count one.client another.client p.client q.client)
+    (peak_is_one (earliest_finish (client_work_of_messages instance.trace.messages)) 1 work.count one.client another.client p.client q.client)
+    (peak_is_one (earliest_finish work) 1 work.count one.after another.after p.after q.after)
     (most_of_is_one (ticks_shared instance.trace.messages) one.writes another.writes p.writes q.writes)
     (most_of_is_one (ticks_on instance.trace.messages) one.cell another.cell p.cell q.cell)
     (peak_is_one (path_cost instance.tree instance.assigned work) 0 (length instance.tree) one.path another.path p.path q.path)
     (p.order ∙ same_length work start other same ∙ sym q.order)
+
+-- where all lists are empty, `after` is `clients`
+pub no_lists_add_nothing : (instance : Instance) → NoListsAddNothing instance
+no_lists_add_nothing instance start limits are none =
+    let clients = client_work_of_messages instance.trace.messages in
+    let work = work_of_instance instance in
+    let same = finish_same (timings_of instance.trace.messages) (awaits_client instance.trace.messages (λ m number. none (m - 1) no_message (omega (arith, number.from, number.to)))) in
+    peak_is_one (earliest_finish work) 1 work.count limits.client limits.after
+    (peak_again (earliest_finish clients) (earliest_finish work) same 1 work.count limits.client are.client) are.after
 
 pub limits_are_lower_bound : (instance : Instance) → LimitsAreLowerBound instance
 limits_are_lower_bound instance layout workers start limits under are = is_lower_bound instance layout under workers start limits are
@@ -253,4 +274,4 @@ pub path_is_reached : (instance : Instance) → TreeIsReached instance.tree inst
 path_is_reached instance law layout start limits under are free = reached instance layout under free law start limits are
 
 pub clients_finish : (work : Work) → ClientsFinish work
-clients_finish work follows m number = client_is work follows m number
+clients_finish work follows m number = earliest_is work follows m number

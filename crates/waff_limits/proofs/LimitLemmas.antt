@@ -47,21 +47,31 @@ pub most_used_is_cell : (spaces : List Space) (trace : Arrivals) → IsTrace tra
     → IsMostOf (ticks_on trace.messages) found → IfSome found (λ one. IsCell spaces one.cell)
 most_used_is_cell spaces trace is fits = most_is_cell spaces trace is fits (ticks_on trace.messages) (λ cell. omega arith)
 
--- five lines one after another
-pub five_lines : (a b c d e : List (List ℕ)) (old one two three four five : List ℕ) → one ≡ old ++ line_text a → two ≡ one ++ line_text b → three ≡ two ++ line_text c
-    → four ≡ three ++ line_text d → five ≡ four ++ line_text e → five ≡ old ++ text_of (a ∷ b ∷ c ∷ d ∷ e ∷ [])
-five_lines a b c d e old one two three four five h k l m n =
+-- four lines one after another
+four_lines : (a b c d : List (List ℕ)) (old one two three four : List ℕ) → one ≡ old ++ line_text a → two ≡ one ++ line_text b → three ≡ two ++ line_text c
+    → four ≡ three ++ line_text d → four ≡ old ++ text_of (a ∷ b ∷ c ∷ d ∷ [])
+four_lines a b c d old one two three four h k l m =
     let x = line_text a in
     let y = line_text b in
     let z = line_text c in
     let w = line_text d in
-    let v = line_text e in
-    n ∙ ap (λ t. t ++ v) (m ∙ ap (λ t. t ++ w) (l ∙ ap (λ t. t ++ z) (k ∙ ap (λ t. t ++ y) h)))
-    ∙ append_assoc (((old ++ x) ++ y) ++ z) w v
-    ∙ append_assoc ((old ++ x) ++ y) z (w ++ v)
-    ∙ append_assoc (old ++ x) y (z ++ (w ++ v))
-    ∙ append_assoc old x (y ++ (z ++ (w ++ v)))
-    ∙ ap (λ t. old ++ (x ++ (y ++ (z ++ (w ++ t))))) (sym (append-nil v))
+    m ∙ ap (λ t. t ++ w) (l ∙ ap (λ t. t ++ z) (k ∙ ap (λ t. t ++ y) h))
+    ∙ append_assoc ((old ++ x) ++ y) z w
+    ∙ append_assoc (old ++ x) y (z ++ w)
+    ∙ append_assoc old x (y ++ (z ++ w))
+    ∙ ap (λ t. old ++ (x ++ (y ++ (z ++ t)))) (sym (append-nil w))
+
+-- a line, some more, and four behind them
+pub bound_parts : (first : List (List ℕ)) (more : List (List (List ℕ))) (a b c d : List (List ℕ)) (old zero one two three four five : List ℕ)
+    → zero ≡ old ++ line_text first → one ≡ zero ++ text_of more → two ≡ one ++ line_text a → three ≡ two ++ line_text b → four ≡ three ++ line_text c
+    → five ≡ four ++ line_text d → five ≡ old ++ text_of (first ∷ more ++ a ∷ b ∷ c ∷ d ∷ [])
+bound_parts first more a b c d old zero one two three four five h k l m n o =
+    let end = a ∷ b ∷ c ∷ d ∷ [] in
+    let front : one ≡ old ++ text_of (first ∷ more) = k ∙ ap (λ t. t ++ text_of more) h ∙ append_assoc old (line_text first) (text_of more) in
+    four_lines a b c d one two three four five l m n o
+    ∙ ap (λ t. t ++ text_of end) front
+    ∙ append_assoc old (text_of (first ∷ more)) (text_of end)
+    ∙ ap (λ t. old ++ t) (sym (flat_map-append line_text (first ∷ more) end))
 
 -- a first line, and three parts
 pub four_parts : (first : List (List ℕ)) (rows more end : List (List (List ℕ))) (one two three four : List ℕ) → one ≡ line_text first → two ≡ one ++ text_of rows

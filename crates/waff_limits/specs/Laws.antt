@@ -1,5 +1,5 @@
 -- What the data say of every tree of affinities, and what limits say of all plans.
-use Rattle.std.specs.Prelude.{◌≡◌, ℕ, ◌+◌, ◌≤◌, max, All, Bool, true, false, List, Option, None, IfSome, length, map}
+use Rattle.std.specs.Prelude.{◌≡◌, ℕ, ◌+◌, ◌≤◌, max, All, Bool, true, false, List, [], Option, None, IfSome, length, map}
 use Rattle.std.specs.List.{range_with_len}
 use Rattle.waff_model.specs.Layout.{Hierarchy, IsCell, IsLayout}
 use Rattle.waff_model.specs.Messages.{IsTrace, no_client, sizes_of}
@@ -51,7 +51,7 @@ pub record IsUnder (layout : Hierarchy) (instance : Instance) : Type 0 where
 abbrev pub greatest_limit : Option ℕ → Limits → ℕ
 greatest_limit workers limits =
     max (share_in workers limits.total)
-    (max limits.client.ticks (max (ticks_of limits.writes) (max (ticks_of limits.cell) limits.path.ticks)))
+    (max limits.client.ticks (max limits.after.ticks (max (ticks_of limits.writes) (max (ticks_of limits.cell) limits.path.ticks))))
 
 -- it is the lower bound on the length of plans
 abbrev pub LimitsAreLowerBound : Instance → Type 0
@@ -66,7 +66,18 @@ NoneIsBelowLimits instance =
     → AreLimits instance start limits → ObeysInSomeOrder instance.tree instance.assigned (work_of_instance instance) workers other
     → greatest_limit workers limits ≤ length_of (work_of_instance instance) other
 
--- a plan keeps the order of another: before the third version that of the trace, which both keep, and in the third it serves as the other
+-- lists make nothing less of what clients need
+abbrev pub AfterIsNotBelow : Instance → Type 0
+AfterIsNotBelow instance =
+    (start : ℕ → ℕ) (limits : Limits) → AreLimits instance start limits → limits.client.ticks ≤ limits.after.ticks
+
+-- and where all are empty, nothing more
+abbrev pub NoListsAddNothing : Instance → Type 0
+NoListsAddNothing instance =
+    (start : ℕ → ℕ) (limits : Limits) → AreLimits instance start limits → All (λ message. message.after ≡ []) instance.trace.messages
+    → limits.client ≡ limits.after
+
+-- a plan keeps the order of another: before messages have clients that of the trace, which both keep, and then it serves as the other
 abbrev pub KeepsOrderWhere : Bool → Instance → (ℕ → ℕ) → (ℕ → ℕ) → Type 0
 KeepsOrderWhere false instance start other = Obeys (before_in instance) (work_of_instance instance) other
 KeepsOrderWhere true instance start other = ServesAs instance.tree instance.assigned (work_of_instance instance) start other
@@ -78,18 +89,19 @@ OrderIsShortest instance =
     → IsLeast (served_first instance start) (work_of_instance instance) start → AreLimits instance start limits
     → KeepsOrderWhere (has_clients instance.trace.version) instance start other → limits.order ≤ length_of (work_of_instance instance) other
 
--- the unlimited plan is no shorter than what the clients, the cells and the tree allow
+-- the unlimited plan is no shorter than what the clients, the lists, the cells and the tree allow
 abbrev pub OrderIsNotBelow : Instance → Type 0
 OrderIsNotBelow instance =
     (layout : Hierarchy) (start : ℕ → ℕ) (limits : Limits) → IsUnder layout instance
     → IsLeast (served_first instance start) (work_of_instance instance) start → AreLimits instance start limits
     → greatest_limit None limits ≤ limits.order
 
--- a message that may start at once: it has no release, no think time and no client
+-- a message that may start at once: it has no release, no think time, no client and no list
 pub record StartsAtOnce (message : Message) : Type 0 where
   pub no_release : message.release ≡ 0
   pub no_think : message.think ≡ 0
   pub no_client : message.client ≡ no_client
+  pub no_list : message.after ≡ []
 
 -- where all messages may, a plan that obeys in some order is as long as what runs on one path of affinities
 abbrev pub PathIsReached : Instance → Type 0

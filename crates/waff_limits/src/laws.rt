@@ -8,8 +8,9 @@ ghost use Rattle.waff_model.specs.declared.message.Message.{Message};
 ghost use Rattle.waff_assign.specs.Instance.{Instance};
 ghost use Rattle.waff_limits.specs.Data.{IsMostOf};
 ghost use Rattle.waff_plan.specs.Work.{Work};
-ghost use Rattle.waff_limits.specs.Laws.{ClientsFinish, DataBoundsTree, LimitsAreLowerBound};
-ghost use Rattle.waff_limits.specs.Laws.{LimitsAreOne, NoneIsBelowLimits, OrderIsNotBelow};
+ghost use Rattle.waff_limits.specs.Laws.{AfterIsNotBelow, ClientsFinish, DataBoundsTree};
+ghost use Rattle.waff_limits.specs.Laws.{LimitsAreLowerBound, LimitsAreOne, NoListsAddNothing};
+ghost use Rattle.waff_limits.specs.Laws.{NoneIsBelowLimits, OrderIsNotBelow};
 ghost use Rattle.waff_limits.specs.Laws.{OrderIsShortest, PathIsReached, WritesBoundData};
 ghost use Rattle.waff_limits.specs.declared.data.CellUse.{CellUse};
 
@@ -35,7 +36,8 @@ pub fn writes_bound_data()
 {}
 
 /// No plan that obeys, for as many workers or without a limit on them, is shorter than the greatest of a worker's share, of what a client
-/// needs, of the use of a cell and of what runs on a path of affinities, in whatever order it serves.
+/// needs, of what messages need that await one another, of the use of a cell and of what runs on a path of affinities, in whatever order it
+/// serves.
 pub fn none_is_below_limits()
     ensures { (instance : Instance) → NoneIsBelowLimits instance }
 {}
@@ -43,6 +45,16 @@ pub fn none_is_below_limits()
 /// This greatest is the lower bound that figures of plans with clients tell.
 pub fn limits_are_lower_bound()
     ensures { (instance : Instance) → LimitsAreLowerBound instance }
+{}
+
+/// What messages need that await one another, by their lists too, is no less than what a client needs.
+pub fn after_is_not_below()
+    ensures { (instance : Instance) → AfterIsNotBelow instance }
+{}
+
+/// Where all lists are empty it is just that.
+pub fn no_lists_add_nothing()
+    ensures { (instance : Instance) → NoListsAddNothing instance }
 {}
 
 /// No plan that keeps the order of the unlimited plan is shorter than that one.
@@ -55,16 +67,16 @@ pub fn order_is_not_below()
     ensures { (instance : Instance) → OrderIsNotBelow instance }
 {}
 
-/// Where no message has a release, a think time or a client, a plan that obeys in some order is as long as what runs on the longest path of
-/// affinities.
+/// Where no message has a release, a think time, a client or a list, a plan that obeys in some order is as long as what runs on the longest
+/// path of affinities.
 pub fn path_is_reached()
     ensures { (instance : Instance) → PathIsReached instance }
 {
     tree_is_reached();
 }
 
-/// What a client needs: each of its messages has finished its cost after its issue, which is its floor, or where that is later the latest
-/// finish of a message that it awaits, with its gap.
+/// What messages need that await one another, by their clients or by their lists: each has finished its cost after its issue, which is its
+/// floor, or where that is later the latest finish of a message that it awaits, with its gap.
 pub fn clients_finish()
     ensures { (work : Work) → ClientsFinish work }
 {}

@@ -7,10 +7,10 @@
 //! - `laid`: a trace under a hierarchy. `lifted`: messages that run high, in affinities below which others lie (`inner`), and the cells that
 //!   lift them, by `jumps` up the tree, told together in `why_rows`; `why_text`: their text. `cell_text`: a cell in a text.
 //!
-//! No plan that obeys is shorter than the greatest of the limits of workers, clients, writes, data
-//! and tree, in whatever order it serves; none that keeps the order of the unlimited plan is
-//! shorter than that one; and under no tree of affinities is a plan shorter than the use of one
-//! cell.
+//! No plan that obeys is shorter than the greatest of the limits of workers, clients, lists, writes, data
+//! and tree, in whatever order it serves; none that keeps the order of the unlimited plan is shorter
+//! than that one; and under no tree of affinities is a plan shorter than the use of one cell. The limit
+//! of the lists, of all that messages await, is no less than that of their clients alone.
 //!
 //! Tests: `test_worked/src/limits.rt`; the command cases `limits-*` and `why-*` (a message that
 //! names a cell twice, the inner cell of a range, readers of ranges that overlap, clients that

@@ -9,16 +9,16 @@ ghost use Rattle.waff_assign.specs.Case.{instance_of};
 ghost use Rattle.waff_plan.specs.Laws.{share_of};
 ghost use Rattle.waff_plan.specs.Planned.{planned_starts};
 ghost use Rattle.waff_plan_text.specs.Lines.{Adds, line_text, text_of};
-ghost use Rattle.waff_limits.specs.Limits.{AreLimits, affinity_field, bound_lines, cell_field};
-ghost use Rattle.waff_limits.specs.Limits.{client_field, limit_row, limits_header, limits_lines};
-ghost use Rattle.waff_limits.specs.Limits.{planned_row, ticks_of, work_row};
+ghost use Rattle.waff_limits.specs.Limits.{AreLimits, affinity_field, after_lines, bound_lines};
+ghost use Rattle.waff_limits.specs.Limits.{cell_field, client_field, limit_row, limits_header};
+ghost use Rattle.waff_limits.specs.Limits.{limits_lines, planned_row, ticks_of, work_row};
 
 use crate::cell_text::push_cell;
 use crate::data::CellUse;
 use crate::limits::Limits;
 use std::alloc::{AllocError, Global};
 use waff_figures::Figures;
-use waff_model::{AffinityId, Layout, Trace, Tree};
+use waff_model::{AffinityId, Layout, Trace, Tree, Version};
 use waff_plan::{Peak, Planned, Workers};
 use waff_plan_text::{Ratio, WorkerField};
 
@@ -37,7 +37,7 @@ pub fn limits_text(
         (planned_starts unlimited.now) limits.now }
     ensures { IfOk result (λ text. string_bytes text
         ≡ text_of (limits_lines layout.now.spaces unlimited.now.case.tree.now
-        unlimited.now.case.trace.now.messages workers.now limits.now listed.now)) }
+        unlimited.now.case.trace.now workers.now limits.now listed.now)) }
 {
     let mut text = String::new(alloc);
     push_header(&mut text)?;
@@ -84,11 +84,12 @@ fn push_bounds(
     requires limits { AreLimits (instance_of unlimited.now.case)
         (planned_starts unlimited.now) limits.now }
     ensures { OnOk result (Adds text.old text.new (text_of (bound_lines layout.now.spaces
-        unlimited.now.case.tree.now unlimited.now.case.trace.now.messages limits.now))) }
+        unlimited.now.case.tree.now unlimited.now.case.trace.now limits.now))) }
 {
     let Limits {
         total,
         client,
+        after,
         writes,
         cell,
         path,
@@ -96,26 +97,37 @@ fn push_bounds(
     } = *limits;
     let case = &unlimited.case;
     let _messages = case.trace.len();
-    push_row(
-        text,
-        "clients",
-        None,
-        total,
-        client.ticks,
-        client_name(case.trace, client),
-    )?;
+    let name = client_name(case.trace, client);
+    push_row(text, "clients", None, total, client.ticks, name)?;
+    push_after(text, alloc, case.trace.version(), total, after)?;
     push_data(text, alloc, layout, "writes", total, writes)?;
     push_data(text, alloc, layout, "data", total, cell)?;
-    push_row(
-        text,
-        "tree",
-        None,
-        total,
-        path.ticks,
-        affinity_name(case.tree, path),
-    )?;
+    let name = affinity_name(case.tree, path);
+    push_row(text, "tree", None, total, path.ticks, name)?;
     push_row(text, "order", None, total, order, "-")?;
     Ok(())
+}
+
+/// Appends the line of what messages await by their lists too, where the version of the trace has lists.
+fn push_after(
+    text: &mut String,
+    alloc: Global,
+    version: Version,
+    total: u64,
+    after: Peak,
+) -> Result<(), AllocError>
+    ensures { OnOk result (Adds text.old text.new (text_of (after_lines version total after))) }
+{
+    if !version.has_after() {
+        return Ok(());
+    }
+    if after.ticks == 0 {
+        return push_row(text, "after", None, total, 0, "-");
+    }
+    let at = format!(in alloc; "{}", after.at)?;
+    let pushed = push_row(text, "after", None, total, after.ticks, at.as_str());
+    drop(at);
+    pushed
 }
 
 /// The client of the message with the greatest finish, `-` where there is none.

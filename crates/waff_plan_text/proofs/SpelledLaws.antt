@@ -7,7 +7,7 @@ use Rattle.std.proofs.lemmas.List.Elements.{All-cons, All-head, All-nil, All-tai
 use Rattle.std.proofs.lemmas.Slice.Eq.{bytes_eq-Decides}
 use Rattle.waff_model.specs.declared.limits.TheConstants.{MAX_TICK, MAX_WORKERS}
 use Rattle.waff_model.specs.declared.message.Version.{Version}
-use Rattle.waff_model.specs.declared.message.Version.TheVariants.{V1, V2, V3}
+use Rattle.waff_model.specs.declared.message.Version.TheVariants.{V1, V2, V3, V4}
 use Rattle.waff_model.specs.Versions.{has_releases}
 use Rattle.waff_parse.specs.Fields.{Field, two_of}
 use Rattle.waff_parse.specs.Refusals.{◌>>=◌, told}
@@ -323,18 +323,21 @@ all_told : (version : Version) (values : Values (lines_of version)) → Has (lin
 all_told V1 values = (refl, (refl, (refl, (refl, (refl, (refl, tt))))))
 all_told V2 values = (refl, (refl, (refl, (refl, (refl, (refl, (refl, tt)))))))
 all_told V3 values = (refl, (refl, (refl, (refl, (refl, (refl, (refl, tt)))))))
+all_told V4 values = (refl, (refl, (refl, (refl, (refl, (refl, (refl, tt)))))))
 
 none_told : (version : Version) (values : Values (lines_of version)) → has_releases version ≡ false
     → (with_all (lines_of version) values no_summary).totals.release ≡ 0
 none_told V1 values none = refl
 none_told V2 values none = absurd (cc)
 none_told V3 values none = absurd (cc)
+none_told V4 values none = absurd (cc)
 
 all_copied : (version : Version) (whole : SummaryLines) → (has_releases version ≡ false → whole.totals.release ≡ 0)
     → copied (lines_of version) whole no_summary ≡ whole
 all_copied V1 whole zero = ap (λ (n : ℕ). record whole { totals = record whole.totals { release = n } }) (sym (zero refl))
 all_copied V2 whole zero = refl
 all_copied V3 whole zero = refl
+all_copied V4 whole zero = refl
 
 spelled : (version : Version) (messages at : ℕ) (rows : List Record) (summary : SummaryLines) → summary_of version messages at rows ≡ Ok summary
     → SpellsSummary version messages rows summary

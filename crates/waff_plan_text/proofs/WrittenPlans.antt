@@ -16,7 +16,7 @@ use Rattle.waff_model.specs.Tree.{Node, name_of}
 use Rattle.waff_model.specs.Versions.{has_releases}
 use Rattle.waff_model.specs.declared.limits.TheConstants.{MAX_MESSAGES, MAX_TICK, MAX_WORKERS}
 use Rattle.waff_model.specs.declared.message.Version.{Version}
-use Rattle.waff_model.specs.declared.message.Version.TheVariants.{V1, V2, V3}
+use Rattle.waff_model.specs.declared.message.Version.TheVariants.{V1, V2, V3, V4}
 use Rattle.waff_assign.specs.Order.{affinity_of}
 use Rattle.waff_plan.specs.Bound.{IsWorkers}
 use Rattle.waff_plan.specs.Chain.{IsListed, IsAmongFirst}
@@ -259,6 +259,7 @@ module _ (version : Version) (messages : ℕ) (workers : Option ℕ) (chain : Li
       first_version V1 none = refl
       first_version V2 none = absurd (cc)
       first_version V3 none = absurd (cc)
+      first_version V4 none = absurd (cc)
 
   small_workers : (workers : Option ℕ) → IfSome workers IsWorkers → IfSome workers (λ k. k < 2 ^ 64)
   small_workers None is = tt

@@ -1,29 +1,31 @@
 -- A message is accepted exactly where no check holds.
-use Rattle.std.proofs.Common.{◌≡◌, ◌≢◌, ℕ, ◌+◌, ◌≤◌, List, [], ◌∷◌, length, map, Bool, true, false, Option, Some, None, Result, Ok, Err, refl, sym, ap, arith}
+use Rattle.std.proofs.Common.{◌≡◌, ◌≢◌, ℕ, ◌+◌, ◌-◌, ◌≤◌, List, [], ◌∷◌, length, map, Bool, true, false, Option, Some, None, Result, Ok, Err, refl, sym, ap, arith}
 use Rattle.std.specs.Prelude.{ok_or, option_and_then, nat_lt, ◌==◌, if◌then◌else◌}
 use Rattle.std.specs.List.{flat_map}
 use Rattle.std.proofs.lemmas.Bool.{ltb-false, le-ltb, eqb-false, ne_eqb}
 use Rattle.waff_model.specs.Layout.{Space}
 use Rattle.waff_model.specs.Names.{is_name}
 use Rattle.waff_model.specs.Versions.{max_messages}
+use Rattle.waff_model.specs.declared.awaits.Await.{Await}
 use Rattle.waff_model.specs.declared.limits.TheConstants.{MAX_COST, MAX_RELEASE, MAX_THINK}
 use Rattle.waff_model.specs.declared.message.Message.{Message}
 use Rattle.waff_model.specs.declared.message.Version.{Version}
-use Rattle.waff_model.specs.declared.message.Version.TheVariants.{V1, V2, V3}
 use Rattle.waff_model.specs.declared.op.Op.{Op}
 use Rattle.waff_parse.specs.Fields.{Field}
 use Rattle.waff_parse.specs.Refusals.{◌>>=◌, both, one}
 use Rattle.waff_parse.specs.Rows.{Record}
 use Rattle.waff_parse.specs.Texts.{number_of, number_within, parts, within}
 use Rattle.waff_parse.specs.Walks.{gather}
-use Rattle.waff_read.specs.Laws.{IsClient, IsRelease, IsThink, PiecesAreSingle, RecordIsExact, SpellOps, Spells}
+use Rattle.waff_read.specs.Awaits.{after_of, are_between, await_of, awaits_of, list_of}
+use Rattle.waff_read.specs.Laws.{IsAfter, IsClient, IsRelease, IsThink, PiecesAreSingle, RecordIsExact, SpellAwaits, SpellOps, Spells}
 use Rattle.waff_read.specs.Messages.{Columns, client_of, columns_of, cost_of, counted, message_of_columns, message_of_row, name_of, release_of, think_of}
 use Rattle.waff_read.specs.Pieces.{joined, ops_of, piece_of, pieces_of}
-use Rattle.waff_read.specs.Places.{most_ops}
+use Rattle.waff_read.specs.Places.{most_awaited, most_ops}
 use Rattle.waff_read.specs.TraceFaults.{number}
 use Rattle.waff_read.specs.declared.place.Place.{Place}
 use Rattle.waff_read.specs.declared.trace_fault.TraceFault.{TraceFault}
 use Rattle.waff_read.specs.declared.trace_fault.TraceFault.TheVariants as fault
+use Rattle.waff_read.proofs.AwaitLaws.{are_list, list_are}
 
 -- a list is gathered exactly where each item is read
 pub gather-read : {F A B : Type 0} (rank : F → ℕ) (f : A → Result B F) (xs : List A) (ys : List B) → gather rank f xs ≡ Ok ys → map f xs ≡ map Ok ys
@@ -153,17 +155,65 @@ read-think_of : (text : Option Field) (think : ℕ) → IsThink text think → t
 read-think_of None think h = rw h refl
 read-think_of (Some text) think h = read-number_within 0 MAX_THINK text fault.Think think h.0 (omega arith) h.1
 
+-- the messages that pieces spell
+pub awaits_of-read : (text : Field) (list : List Await) → awaits_of text ≡ Ok list → SpellAwaits text list
+unfolding awaits_of
+awaits_of-read [] list h = cc
+awaits_of-read (b ∷ bs) list h = gather-read number await_of (parts 32 (b ∷ bs)) list (rw (some_bytes (b ∷ bs) (λ none. cc none)) at h)
+
+pub read-awaits_of : (text : Field) (list : List Await) → SpellAwaits text list → awaits_of text ≡ Ok list
+unfolding awaits_of
+read-awaits_of [] list h = rw h refl
+read-awaits_of (b ∷ bs) list h = rw (some_bytes (b ∷ bs) (λ none. cc none)) (read-gather number await_of (parts 32 (b ∷ bs)) list h)
+
+-- a list
+pub after_of-read : (place : Place) (text : Option Field) (list : List Await) → after_of place text ≡ Ok list
+    → IsAfter (place.at - 1) text list × (length list ≤ most_awaited place)
+unfolding list_of
+after_of-read place None list h =
+    let none : list ≡ [] = cc in
+    (none, rw none (omega arith))
+after_of-read place (Some text) list h = by (awaits_of text) (awaits_of-read text) h
+  where
+    few : (read : List Await) (b : Bool) → nat_lt (most_awaited place) (length read) ≡ b → (if b then Err fault.TooManyAfter else Ok read) ≡ Ok list
+        → (read ≡ list) × (length read ≤ most_awaited place)
+    few read true p e = absurd (cc)
+    few read false p e = (cc, ltb-false (most_awaited place) (length read) p)
+
+    limited : (read : List Await) (b : Bool) → are_between 0 (place.at - 1) read ≡ b → SpellAwaits text read
+        → ((if b then Ok read else Err fault.After) >>= (λ read. if nat_lt (most_awaited place) (length read) then Err fault.TooManyAfter else Ok read)) ≡ Ok list
+        → IsAfter (place.at - 1) (Some text) list × (length list ≤ most_awaited place)
+    limited read false p spelled e = absurd (cc)
+    limited read true p spelled e =
+        let is = few read (nat_lt (most_awaited place) (length read)) refl e in
+        rw (← is.0) ((spelled, are_list (place.at - 1) read p), is.1)
+
+    by : (r : Result (List Await) TraceFault) → ((read : List Await) → r ≡ Ok read → SpellAwaits text read)
+        → ((r >>= (λ read. if are_between 0 (place.at - 1) read then Ok read else Err fault.After))
+        >>= (λ read. if nat_lt (most_awaited place) (length read) then Err fault.TooManyAfter else Ok read)) ≡ Ok list
+        → IsAfter (place.at - 1) (Some text) list × (length list ≤ most_awaited place)
+    by (Ok read) each e = limited read (are_between 0 (place.at - 1) read) refl (each read refl) e
+    by (Err d) each e = absurd (cc)
+
+read-after_of : (place : Place) (text : Option Field) (list : List Await) → IsAfter (place.at - 1) text list → length list ≤ most_awaited place
+    → after_of place text ≡ Ok list
+unfolding list_of
+read-after_of place None list h few = rw h refl
+read-after_of place (Some text) list h few =
+    rw (read-awaits_of text list h.0, list_are (place.at - 1) list h.1, le-ltb (most_awaited place) (length list) few) refl
+
 module _ (version : Version) (spaces : List Space) (place : Place) (columns : Columns) (message : Message) where
   pub columns-read : message_of_columns version spaces place columns ≡ Ok message → Spells version spaces place columns message
   unfolding message_of_columns
   columns-read h =
       by (name_of columns.name) (cost_of columns.cost) (ops_of version spaces (most_ops version place) columns.ops) (counted version place.at) (release_of columns.release)
-      (client_of columns.client) (think_of columns.think)
+      (client_of columns.client) (think_of columns.think) (after_of place columns.after)
       (name_of-read columns.name) (number_within-read 1 MAX_COST columns.cost fault.Cost) (ops_of-read version spaces (most_ops version place) columns.ops)
-      (counted-read version place.at) (release_of-read columns.release) (client_of-read columns.client) (think_of-read columns.think) h
+      (counted-read version place.at) (release_of-read columns.release) (client_of-read columns.client) (think_of-read columns.think)
+      (after_of-read place columns.after) h
     where
       by : (n : Result Field TraceFault) (c : Result ℕ TraceFault) (o : Result (List Op) TraceFault) (a : Result ℕ TraceFault) (r : Result ℕ TraceFault)
-          (k : Result Field TraceFault) (t : Result ℕ TraceFault)
+          (k : Result Field TraceFault) (t : Result ℕ TraceFault) (l : Result (List Await) TraceFault)
           → ((name : Field) → n ≡ Ok name → (is_name columns.name ≡ true) × (name ≡ columns.name))
           → ((cost : ℕ) → c ≡ Ok cost → (number_of columns.cost ≡ Some cost) × (1 ≤ cost) × (cost ≤ MAX_COST))
           → ((list : List Op) → o ≡ Ok list → (columns.ops ≢ []) × SpellOps version spaces columns.ops list × (length list ≤ most_ops version place))
@@ -171,6 +221,7 @@ module _ (version : Version) (spaces : List Space) (place : Place) (columns : Co
           → ((release : ℕ) → r ≡ Ok release → IsRelease columns.release release)
           → ((client : Field) → k ≡ Ok client → IsClient columns.client client)
           → ((think : ℕ) → t ≡ Ok think → IsThink columns.think think)
+          → ((list : List Await) → l ≡ Ok list → IsAfter (place.at - 1) columns.after list × (length list ≤ most_awaited place))
           → (do
             name ← n
             cost ← c
@@ -179,10 +230,11 @@ module _ (version : Version) (spaces : List Space) (place : Place) (columns : Co
             release ← r
             client ← k
             think ← t
-            Ok (record { name = name; cost = cost; release = release; client = client; think = think; ops = ops })) ≡ Ok message
+            after ← l
+            Ok (record { name = name; cost = cost; release = release; client = client; think = think; after = after; ops = ops })) ≡ Ok message
           → Spells version spaces place columns message
-      by (Ok n) (Ok c) (Ok o) (Ok a) (Ok r) (Ok k) (Ok t) hn hc ho ha hr hk ht e =
-          let same : ◌≡◌ {A = Message} (record { name = n; cost = c; release = r; client = k; think = t; ops = o }) message = cc in
+      by (Ok n) (Ok c) (Ok o) (Ok a) (Ok r) (Ok k) (Ok t) (Ok l) hn hc ho ha hr hk ht hl e =
+          let same : ◌≡◌ {A = Message} (record { name = n; cost = c; release = r; client = k; think = t; after = l; ops = o }) message = cc in
           let is_cost = hc c refl in
           let are_ops = ho o refl in
           rw (← same)
@@ -199,8 +251,10 @@ module _ (version : Version) (spaces : List Space) (place : Place) (columns : Co
             release = hr r refl;
             client = hk k refl;
             think = ht t refl;
+            after = (hl l refl).0;
+            within_after = (hl l refl).1;
           })
-      by _ _ _ _ _ _ _ hn hc ho ha hr hk ht e = absurd (cc)
+      by _ _ _ _ _ _ _ _ hn hc ho ha hr hk ht hl e = absurd (cc)
 
   pub read-columns : Spells version spaces place columns message → message_of_columns version spaces place columns ≡ Ok message
   unfolding message_of_columns
@@ -210,7 +264,8 @@ module _ (version : Version) (spaces : List Space) (place : Place) (columns : Co
       let is_release : release_of columns.release ≡ Ok message.release = read-release_of columns.release message.release s.release in
       let is_client : client_of columns.client ≡ Ok message.client = read-client_of columns.client message.client s.client in
       let is_think : think_of columns.think ≡ Ok message.think = read-think_of columns.think message.think s.think in
-      rw (s.named, is_cost, are_ops, le-ltb (max_messages version + 1) place.at s.counted, is_release, is_client, is_think, ← s.name) refl
+      let is_after : after_of place columns.after ≡ Ok message.after = read-after_of place columns.after message.after s.after s.within_after in
+      rw (s.named, is_cost, are_ops, le-ltb (max_messages version + 1) place.at s.counted, is_release, is_client, is_think, is_after, ← s.name) refl
 
 pub record_is_exact : (version : Version) (spaces : List Space) (place : Place) (row : Record) → RecordIsExact version spaces place row
 record_is_exact version spaces place row message =
@@ -223,6 +278,4 @@ record_is_exact version spaces place row message =
 
 pub pieces_are_single : (version : Version) (spaces : List Space) (piece : List ℕ) → PiecesAreSingle version spaces piece
 unfolding piece_of
-pieces_are_single V1 spaces piece earlier = refl
-pieces_are_single V2 spaces piece earlier = refl
-pieces_are_single V3 spaces piece earlier = absurd (earlier refl)
+pieces_are_single version spaces piece earlier = rw earlier refl

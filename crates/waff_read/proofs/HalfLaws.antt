@@ -1,20 +1,21 @@
 -- The messages of a text from those of its parts.
 use Rattle.std.proofs.Common.{◌≡◌, ℕ, ◌+◌, ◌≤◌, List, [], ◌∷◌, ◌++◌, length, Bool, true, false, Option, Some, None, Result, Ok, Err, refl, sym, ap, subst, ◌∙◌, arith}
-use Rattle.std.specs.Prelude.{IfOk, IfSome}
+use Rattle.std.specs.Prelude.{IfOk, IfSome, ◌-◌, ◌==◌, if◌then◌else◌}
 use Rattle.std.specs.Result.{result_ok}
 use Rattle.std.proofs.lemmas.List.{length-append}
 use Rattle.std.proofs.lemmas.List.Sums.{sum_by-append}
 use Rattle.waff_model.specs.Layout.{Space}
 use Rattle.waff_model.specs.Messages.{Arrivals, ops_in, sizes_of}
-use Rattle.waff_model.specs.Versions.{max_messages}
+use Rattle.waff_model.specs.Versions.{has_after, max_messages}
 use Rattle.waff_model.specs.declared.limits.TheConstants.{MAX_ALL_OPS}
 use Rattle.waff_model.specs.declared.message.Message.{Message}
 use Rattle.waff_model.specs.declared.message.Version.{Version}
+use Rattle.waff_parse.specs.Fields.{field_of}
 use Rattle.waff_parse.specs.Refusals.{◌>>=◌, told}
 use Rattle.waff_parse.specs.Rows.{Record, is_text, records_of}
 use Rattle.waff_parse.specs.Stopping.{Gives}
 use Rattle.waff_parse.specs.declared.stop.Stop.{Stop}
-use Rattle.waff_read.specs.Messages.{Columns, columns_of, message_of, message_of_columns, message_of_row}
+use Rattle.waff_read.specs.Messages.{Columns, columns_of, columns_with, header_row, message_of, message_of_columns, message_of_row}
 use Rattle.waff_read.specs.Places.{first_place, most_ops, next_place}
 use Rattle.waff_read.specs.Traces.{header_of, message_at, messages_at, trace_of, trace_of_records, Spells}
 use Rattle.waff_read.specs.TraceFaults.{at_record}
@@ -24,7 +25,7 @@ use Rattle.waff_read.specs.declared.trace_fault.TraceFault.{TraceFault}
 use Rattle.waff_read.specs.declared.trace_fault.TraceError.{TraceError}
 use Rattle.waff_read.proofs.ExactLaws.{columns-read, read-columns}
 use Rattle.waff_read.proofs.MessageLaws.{fits-most}
-use Rattle.waff_read.proofs.TraceLaws.{fits-message, is-ok, message_at-no-text, message_at-text, messages-few, none_read, ops-few, ops_in-cons, parts_of}
+use Rattle.waff_read.proofs.TraceLaws.{fits-message, is-ok, message_at-no-text, message_at-text, none_read, ops_in-cons, parts_of}
 
 -- what is known of an answer is known of its value
 pub some-has : {A : Type 0} (P : A → Type 0) (o : Option A) (x : A) → o ≡ Some x → IfSome o P → P x
@@ -42,12 +43,26 @@ read-is (Ok y) x read is h =
     rw same h
 read-is (Err e) x read is h = absurd (cc is)
 
--- a record is the same message at any place where neither it nor its operations are too many
-columns-anywhere : (version : Version) (spaces : List Space) (place to : Place) (columns : Columns) (message : Message)
+-- of a version without lists there is no field for one
+no_field : (version : Version) (row : Record) (columns : Columns) → has_after version ≡ false → columns_of version row ≡ Some columns → columns.after ≡ None
+no_field version row columns none is = by (length row == length (header_row version)) is
+  where
+    there : Columns
+    there = columns_with version (field_of row 0) (field_of row 1) (field_of row 2) (field_of row 3) (field_of row 4) (field_of row 5) (field_of row (length row - 1))
+
+    by : (b : Bool) → (if b then Some there else None) ≡ Some columns → columns.after ≡ None
+    by true e =
+        let same : there ≡ columns = cc in
+        ap (λ (c : Columns). c.after) (sym same) ∙ rw none refl
+    by false e = absurd (cc)
+
+-- so a record is the same message at any place where neither it nor its operations are too many
+columns-anywhere : (version : Version) (spaces : List Space) (place to : Place) (columns : Columns) (message : Message) → columns.after ≡ None
     → message_of_columns version spaces place columns ≡ Ok message → to.at ≤ max_messages version + 1 → length message.ops ≤ most_ops version to
     → message_of_columns version spaces to columns ≡ Ok message
-columns-anywhere version spaces place to columns message h few room =
+columns-anywhere version spaces place to columns message no_after h few room =
     let s = columns-read version spaces place columns message h in
+    let none : message.after ≡ [] = rw no_after at s.after in
     read-columns version spaces to columns message (record {
       named = s.named;
       name = s.name;
@@ -61,115 +76,121 @@ columns-anywhere version spaces place to columns message h few room =
       release = s.release;
       client = s.client;
       think = s.think;
+      after = rw no_after none;
+      within_after = rw none (omega arith);
     })
 
-message-anywhere : (version : Version) (spaces : List Space) (place to : Place) (row : Record) (message : Message)
-    → message_of version spaces place row ≡ Ok message → to.at ≤ max_messages version + 1 → length message.ops ≤ most_ops version to
-    → message_of version spaces to row ≡ Ok message
-message-anywhere version spaces place to row message h few room = by (columns_of version row) h
-  where
-    by : (o : Option Columns) → message_of_row version spaces place o ≡ Ok message → message_of_row version spaces to o ≡ Ok message
-    by None e = absurd (cc e)
-    by (Some columns) e = columns-anywhere version spaces place to columns message e few room
+module _ (version : Version) (none : has_after version ≡ false) (spaces : List Space) where
+  message-anywhere : (place to : Place) (row : Record) (message : Message)
+      → message_of version spaces place row ≡ Ok message → to.at ≤ max_messages version + 1 → length message.ops ≤ most_ops version to
+      → message_of version spaces to row ≡ Ok message
+  message-anywhere place to row message h few room = by (columns_of version row) refl h
+    where
+      by : (o : Option Columns) → columns_of version row ≡ o → message_of_row version spaces place o ≡ Ok message → message_of_row version spaces to o ≡ Ok message
+      by None is e = absurd (cc e)
+      by (Some columns) is e = columns-anywhere version spaces place to columns message (no_field version row columns none is) e few room
 
-record-anywhere : (version : Version) (spaces : List Space) (place to : Place) (row : Record) (message : Message)
-    → message_at version spaces place row ≡ Ok message → to.at ≤ max_messages version + 1 → to.ops + length message.ops ≤ MAX_ALL_OPS
-    → message_at version spaces to row ≡ Ok message
-record-anywhere version spaces place to row message h few room =
-    let fits = fits-message version spaces place row message h in
-    by (fits-most version to (length message.ops) fits.within.within_ops room) (is_text row) refl
-  where
-    untold : (r : Result Message TraceFault) → told (at_record place.at) r ≡ Ok message → r ≡ Ok message
-    untold (Ok m) e = ap Ok (is-ok m message e)
-    untold (Err e) f = absurd (cc f)
+  record-anywhere : (place to : Place) (row : Record) (message : Message)
+      → message_at version spaces place row ≡ Ok message → to.at ≤ max_messages version + 1 → to.ops + length message.ops ≤ MAX_ALL_OPS
+      → message_at version spaces to row ≡ Ok message
+  record-anywhere place to row message h few room =
+      let fits = fits-message version spaces place row message h in
+      by (fits-most version to (length message.ops) fits.within.within_ops room) (is_text row) refl
+    where
+      untold : (r : Result Message TraceFault) → told (at_record place.at) r ≡ Ok message → r ≡ Ok message
+      untold (Ok m) e = ap Ok (is-ok m message e)
+      untold (Err e) f = absurd (cc f)
 
-    by : length message.ops ≤ most_ops version to → (b : Bool) → is_text row ≡ b → message_at version spaces to row ≡ Ok message
-    by most true t =
-        let read = untold (message_of version spaces place row) (sym (message_at-text version spaces place row t) ∙ h) in
-        message_at-text version spaces to row t ∙ rw (message-anywhere version spaces place to row message read few most) refl
-    by most false t = absurd (cc (sym (message_at-no-text version spaces place row t) ∙ h))
+      by : length message.ops ≤ most_ops version to → (b : Bool) → is_text row ≡ b → message_at version spaces to row ≡ Ok message
+      by most true t =
+          let read = untold (message_of version spaces place row) (sym (message_at-text version spaces place row t) ∙ h) in
+          message_at-text version spaces to row t ∙ rw (message-anywhere place to row message read few most) refl
+      by most false t = absurd (cc (sym (message_at-no-text version spaces place row t) ∙ h))
 
--- so are records in a row
-records-anywhere : (version : Version) (spaces : List Space) (place to : Place) (rows : List Record) (messages : List Message)
-    → messages_at version spaces place rows ≡ Ok messages → to.at + length messages ≤ max_messages version + 2 → to.ops + ops_in messages ≤ MAX_ALL_OPS
-    → messages_at version spaces to rows ≡ Ok messages
-unfolding messages_at
-records-anywhere version spaces place to [] messages h few room = h
-records-anywhere version spaces place to (row ∷ rows) messages h few room =
-    let p = parts_of version spaces place row rows messages h in
-    let few_parts : to.at + length (p.first ∷ p.others) ≤ max_messages version + 2 = subst (λ (all : List Message). to.at + length all ≤ max_messages version + 2) (sym p.is) few in
-    let room_parts : to.ops + ops_in (p.first ∷ p.others) ≤ MAX_ALL_OPS = subst (λ (all : List Message). to.ops + ops_in all ≤ MAX_ALL_OPS) (sym p.is) room in
-    let sum = ops_in-cons p.first p.others in
-    let first = record-anywhere version spaces place to row p.first p.read (omega (arith, few_parts)) (omega (arith, room_parts, sum)) in
-    let others = records-anywhere version spaces (next_place place p.first) (next_place to p.first) rows p.others p.more (omega (arith, few_parts)) (omega (arith, room_parts, sum)) in
-    rw (first, others) (ap Ok p.is)
+  -- so are records in a row
+  records-anywhere : (place to : Place) (rows : List Record) (messages : List Message)
+      → messages_at version spaces place rows ≡ Ok messages → to.at + length messages ≤ max_messages version + 2 → to.ops + ops_in messages ≤ MAX_ALL_OPS
+      → messages_at version spaces to rows ≡ Ok messages
+  unfolding messages_at
+  records-anywhere place to [] messages h few room = h
+  records-anywhere place to (row ∷ rows) messages h few room =
+      let p = parts_of version spaces place row rows messages h in
+      let few_parts : to.at + length (p.first ∷ p.others) ≤ max_messages version + 2 = subst (λ (all : List Message). to.at + length all ≤ max_messages version + 2) (sym p.is) few in
+      let room_parts : to.ops + ops_in (p.first ∷ p.others) ≤ MAX_ALL_OPS = subst (λ (all : List Message). to.ops + ops_in all ≤ MAX_ALL_OPS) (sym p.is) room in
+      let sum = ops_in-cons p.first p.others in
+      let first = record-anywhere place to row p.first p.read (omega (arith, few_parts)) (omega (arith, room_parts, sum)) in
+      let others = records-anywhere (next_place place p.first) (next_place to p.first) rows p.others p.more (omega (arith, few_parts)) (omega (arith, room_parts, sum)) in
+      rw (first, others) (ap Ok p.is)
 
--- the messages of two parts, neither they nor their operations being too many, are those of the whole
-pub messages-append : (version : Version) (spaces : List Space) (place : Place) (xs ys : List Record) (ms ns : List Message)
-    → messages_at version spaces place xs ≡ Ok ms → messages_at version spaces first_place ys ≡ Ok ns
-    → place.at + length ms + length ns ≤ max_messages version + 2 → place.ops + ops_in ms + ops_in ns ≤ MAX_ALL_OPS
-    → messages_at version spaces place (xs ++ ys) ≡ Ok (ms ++ ns)
-unfolding messages_at
-messages-append version spaces place [] ys ms ns h k few room =
-    let none : [] ≡ ms = none_read version spaces place ms h in
-    let few_none : place.at + length ns ≤ max_messages version + 2 = omega (arith, few) in
-    let room_none : place.ops + ops_in ns ≤ MAX_ALL_OPS = omega (arith, room) in
-    rw (← none) (records-anywhere version spaces first_place place ys ns k few_none room_none)
-messages-append version spaces place (row ∷ xs) ys ms ns h k few room =
-    let p = parts_of version spaces place row xs ms h in
-    let few_parts : place.at + length (p.first ∷ p.others) + length ns ≤ max_messages version + 2 = subst (λ (all : List Message). place.at + length all + length ns ≤ max_messages version + 2) (sym p.is) few in
-    let room_parts : place.ops + ops_in (p.first ∷ p.others) + ops_in ns ≤ MAX_ALL_OPS = subst (λ (all : List Message). place.ops + ops_in all + ops_in ns ≤ MAX_ALL_OPS) (sym p.is) room in
-    let sum = ops_in-cons p.first p.others in
-    let more = messages-append version spaces (next_place place p.first) xs ys p.others ns p.more k (omega (arith, few_parts)) (omega (arith, room_parts, sum)) in
-    rw (p.read, more) (ap (λ (l : List Message). Ok (l ++ ns)) p.is)
+  -- the messages of two parts, neither they nor their operations being too many, are those of the whole
+  messages-append : (place : Place) (xs ys : List Record) (ms ns : List Message)
+      → messages_at version spaces place xs ≡ Ok ms → messages_at version spaces first_place ys ≡ Ok ns
+      → place.at + length ms + length ns ≤ max_messages version + 2 → place.ops + ops_in ms + ops_in ns ≤ MAX_ALL_OPS
+      → messages_at version spaces place (xs ++ ys) ≡ Ok (ms ++ ns)
+  unfolding messages_at
+  messages-append place [] ys ms ns h k few room =
+      let empty : [] ≡ ms = none_read version spaces place ms h in
+      let few_none : place.at + length ns ≤ max_messages version + 2 = omega (arith, few) in
+      let room_none : place.ops + ops_in ns ≤ MAX_ALL_OPS = omega (arith, room) in
+      rw (← empty) (records-anywhere first_place place ys ns k few_none room_none)
+  messages-append place (row ∷ xs) ys ms ns h k few room =
+      let p = parts_of version spaces place row xs ms h in
+      let few_parts : place.at + length (p.first ∷ p.others) + length ns ≤ max_messages version + 2 = subst (λ (all : List Message). place.at + length all + length ns ≤ max_messages version + 2) (sym p.is) few in
+      let room_parts : place.ops + ops_in (p.first ∷ p.others) + ops_in ns ≤ MAX_ALL_OPS = subst (λ (all : List Message). place.ops + ops_in all + ops_in ns ≤ MAX_ALL_OPS) (sym p.is) room in
+      let sum = ops_in-cons p.first p.others in
+      let more = messages-append (next_place place p.first) xs ys p.others ns p.more k (omega (arith, few_parts)) (omega (arith, room_parts, sum)) in
+      rw (p.read, more) (ap (λ (l : List Message). Ok (l ++ ns)) p.is)
 
 -- the trace of a header alone, and messages behind it
 trace-append : (newest : Version) (spaces : List Space) (xs ys : List Record) (trace : Arrivals) (ns : List Message)
-    → trace_of_records newest spaces xs ≡ Ok trace → messages_at trace.version spaces first_place ys ≡ Ok ns
-    → length trace.messages + length ns ≤ max_messages trace.version → ops_in trace.messages + ops_in ns ≤ MAX_ALL_OPS
-    → trace_of_records newest spaces (xs ++ ys) ≡ Ok (record { version = trace.version; sizes = sizes_of spaces; messages = trace.messages ++ ns })
+    → trace_of_records newest spaces xs ≡ Ok trace → trace.messages ≡ [] → messages_at trace.version spaces first_place ys ≡ Ok ns
+    → trace_of_records newest spaces (xs ++ ys) ≡ Ok (record { version = trace.version; sizes = sizes_of spaces; messages = ns })
 unfolding trace_of_records
-trace-append newest spaces [] ys trace ns h k few room = absurd (cc h)
-trace-append newest spaces (header ∷ xs) ys trace ns h k few room = by (header_of newest (header ∷ xs)) refl
+trace-append newest spaces [] ys trace ns h none k = absurd (cc h)
+trace-append newest spaces (header ∷ xs) ys trace ns h none k = by (header_of newest (header ∷ xs)) refl
   where
     made : Version → List Message → Arrivals
     made version ms = record { version = version; sizes = sizes_of spaces; messages = ms }
 
+    no_rows : (version : Version) (rows : List Record) → messages_at version spaces first_place rows ≡ Ok [] → rows ≡ []
+    no_rows version [] p = refl
+    no_rows version (row ∷ rows) p = let parts = parts_of version spaces first_place row rows [] p in let is = parts.is in absurd (cc)
+
     read : (version : Version) (r : Result (List Message) TraceError) → messages_at version spaces first_place xs ≡ r
         → r >>= (λ ms. Ok (made version ms)) ≡ Ok trace
-        → messages_at version spaces first_place (xs ++ ys) >>= (λ ms. Ok (made version ms)) ≡ Ok (made trace.version (trace.messages ++ ns))
+        → messages_at version spaces first_place (xs ++ ys) >>= (λ ms. Ok (made version ms)) ≡ Ok (made trace.version ns)
     read version (Ok ms) p e =
         let is : made version ms ≡ trace = is-ok (made version ms) trace e in
         let v : version ≡ trace.version = ap (λ (t : Arrivals). t.version) is in
-        let m : ms ≡ trace.messages = ap (λ (t : Arrivals). t.messages) is in
-        let whole : messages_at version spaces first_place (xs ++ ys) ≡ Ok (ms ++ ns) =
-        messages-append version spaces first_place xs ys ms ns p (rw v k) (rw (m, v) (omega (arith, few))) (rw m (omega (arith, room))) in
-        rw (whole, ← v, ← m) refl
+        let m : ms ≡ [] = ap (λ (t : Arrivals). t.messages) is ∙ none in
+        let rows : xs ≡ [] = no_rows version xs (p ∙ ap Ok m) in
+        let whole : messages_at version spaces first_place (xs ++ ys) ≡ Ok ns = rw (rows, v) k in
+        rw (whole, ← v) refl
     read version (Err f) p e = absurd (cc e)
 
     by : (r : Result Version TraceError) → header_of newest (header ∷ xs) ≡ r
-        → header_of newest (header ∷ xs) >>= (λ version. messages_at version spaces first_place (xs ++ ys) >>= (λ ms. Ok (made version ms))) ≡ Ok (made trace.version (trace.messages ++ ns))
+        → header_of newest (header ∷ xs) >>= (λ version. messages_at version spaces first_place (xs ++ ys) >>= (λ ms. Ok (made version ms))) ≡ Ok (made trace.version ns)
     by (Ok version) p = rw p (read version (messages_at version spaces first_place xs) refl (rw p at h))
     by (Err e) p = absurd (cc (rw p at h))
 
 -- the messages of two parts of a text
-pub spells-append : (version : Version) (spaces : List Space) (text first second : List ℕ) (ms ns all : List Message)
+spells-append : (version : Version) (spaces : List Space) (text first second : List ℕ) (ms ns all : List Message) → has_after version ≡ false
     → records_of text ≡ records_of first ++ records_of second
     → Spells version spaces first ms → Spells version spaces second ns → all ≡ ms ++ ns → length all ≤ max_messages version → ops_in all ≤ MAX_ALL_OPS
     → Spells version spaces text all
-spells-append version spaces text first second ms ns all parts h k both few room =
+spells-append version spaces text first second ms ns all none parts h k both few room =
     let short : length ms + length ns ≤ max_messages version = omega (arith, length-append ms ns, ap (λ (xs : List Message). length xs) both, few) in
     let small : ops_in ms + ops_in ns ≤ MAX_ALL_OPS = omega (arith, sum_by-append (λ (m : Message). length m.ops) ms ns, ap ops_in both, room) in
-    rw (parts, both) (messages-append version spaces first_place (records_of first) (records_of second) ms ns h k (omega (arith, short)) (omega (arith, small)))
+    rw (parts, both) (messages-append version none spaces first_place (records_of first) (records_of second) ms ns h k (omega (arith, short)) (omega (arith, small)))
 
-pub spells-both : (version : Version) (spaces : List Space) (text first second : List ℕ) (ms ns : List Message) (read : Option Messages)
+pub spells-both : (version : Version) (spaces : List Space) (text first second : List ℕ) (ms ns : List Message) (read : Option Messages) → has_after version ≡ false
     → records_of text ≡ records_of first ++ records_of second
     → Spells version spaces first ms → Spells version spaces second ns
     → IfSome read (λ all. all.list ≡ ms ++ ns) → IfSome read (λ all. length all.list ≤ max_messages version) → IfSome read (λ all. ops_in all.list ≤ MAX_ALL_OPS)
     → IfSome read (λ all. Spells version spaces text all.list)
-spells-both version spaces text first second ms ns None parts h k both few room = tt
-spells-both version spaces text first second ms ns (Some all) parts h k both few room =
-    spells-append version spaces text first second ms ns all.list parts h k both few room
+spells-both version spaces text first second ms ns None none parts h k both few room = tt
+spells-both version spaces text first second ms ns (Some all) none parts h k both few room =
+    spells-append version spaces text first second ms ns all.list none parts h k both few room
 
 -- a list of no length
 nothing : {A : Type 0} (xs : List A) → length xs ≡ 0 → xs ≡ []
@@ -182,10 +203,7 @@ pub trace-behind : (newest : Version) (spaces : List Space) (text first rows : L
     → trace_of newest spaces first ≡ Ok header → length header.messages ≡ 0 → Spells header.version spaces rows ns
     → trace_of newest spaces text ≡ Ok (record { version = header.version; sizes = sizes_of spaces; messages = ns })
 trace-behind newest spaces text first rows header ns parts h none k =
-    let empty = nothing header.messages none in
-    let few = messages-few header.version spaces first_place (records_of rows) ns k (omega arith) in
-    let room = ops-few header.version spaces first_place (records_of rows) ns k (omega arith) in
-    rw parts (rw empty at (trace-append newest spaces (records_of first) (records_of rows) header ns h k (omega (arith, few, none)) (rw empty (omega (arith, room)))))
+    rw parts (trace-append newest spaces (records_of first) (records_of rows) header ns h (nothing header.messages none) k)
 
 -- the trace that is made of what was read
 pub made-long : (newest : Version) (spaces : List Space) (text : List ℕ) (all : Arrivals) {E : Type 0} (r : Result Arrivals E) (o : Option Arrivals)

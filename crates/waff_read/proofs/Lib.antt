@@ -5,6 +5,7 @@ mod LevelLemmas
 mod NameLemmas
 mod SpaceLemmas
 mod PartLemmas
+mod AwaitLaws
 mod OpLaws
 mod OpsLaws
 mod RangeLaws

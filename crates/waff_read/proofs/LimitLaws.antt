@@ -28,7 +28,7 @@ use Rattle.waff_read.specs.Spaces.{space_of, map_of}
 use Rattle.waff_read.specs.Traces.{header_of, messages_at, trace_of_records, trace_of_rows}
 use Rattle.waff_read.specs.declared.trace_fault.TraceError.{TraceError}
 use Rattle.waff_read.proofs.HierarchyLaws.{hierarchy_is_exact, rooted-tree_of}
-use Rattle.waff_read.proofs.TraceLaws.{messages-few, messages-fit, ops-few}
+use Rattle.waff_read.proofs.TraceLaws.{awaited-few, lists-read, messages-few, messages-fit, ops-few}
 
 -- a tree has an affinity for each row that was read
 longer-tree_from : (tree : List Node) (rows : List Data) (read : List Node) → tree_from tree rows ≡ Ok read → length tree + length rows ≤ length read
@@ -67,13 +67,15 @@ layout_is_within_limits bytes layout read =
     is_layout-layout_of (format_of d.document) d.kind d.tree (map space_of (rows_at (codes "space") d.document)) (map map_of (rows_at (codes "map") d.document)) layout
     (is_tree-tree_of (rows_at (codes "affinity") d.document) d.tree d.is_tree) d.is_layout
 
--- messages that are read are within the limits, and so are their number and that of their operations
+-- messages that are read are within the limits, and so are their lists, their number and those of their operations and of what they await
 messages-within : (version : Version) (spaces : List Space) (rows : List Record) (messages : List Message) → messages_at version spaces first_place rows ≡ Ok messages
     → IsTrace (record { version = version; sizes = sizes_of spaces; messages = messages })
 messages-within version spaces rows messages read = record {
   messages = messages-fit version spaces first_place rows messages read;
   few = omega (arith, messages-few version spaces first_place rows messages read (omega arith));
   few_ops = omega (arith, ops-few version spaces first_place rows messages read (omega arith));
+  lists = lists-read version spaces first_place rows messages read (omega arith);
+  few_awaited = omega (arith, awaited-few version spaces first_place rows messages read (omega arith));
 }
 
 records-within : (newest : Version) (spaces : List Space) (rows : List Record) (trace : Arrivals) → trace_of_records newest spaces rows ≡ Ok trace → IsTrace trace

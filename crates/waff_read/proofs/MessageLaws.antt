@@ -1,8 +1,8 @@
 -- A message that was read is within the limits, and its cells lie in the spaces.
-use Rattle.std.proofs.Common.{◌≡◌, ◌≢◌, ℕ, ◌+◌, ◌-◌, ◌≤◌, List, [], length, Bool, true, false, Option, Some, None, Result, Ok, Err, refl, ap, arith}
+use Rattle.std.proofs.Common.{◌≡◌, ℕ, ◌+◌, ◌-◌, ◌≤◌, List, [], length, Bool, true, false, Option, Some, None, Result, Ok, Err, refl, ap, arith}
 use Rattle.std.specs.Prelude.{IfOk, IfSome, ok_or, option_and_then, nat_le, nat_lt, ◌==◌, if◌then◌else◌}
 use Rattle.std.specs.List.{flat_map}
-use Rattle.std.proofs.lemmas.Bool.{leb-true, leb-false, ltb-false}
+use Rattle.std.proofs.lemmas.Bool.{both_ways, leb-true, leb-false, ltb-false}
 use Rattle.std.proofs.lemmas.Grind.{flat_map-append}
 use Rattle.std.proofs.lemmas.List.{length-append}
 use Rattle.std.proofs.lemmas.List.Elements.{All-append, All-nil}
@@ -10,11 +10,11 @@ use Rattle.waff_model.specs.Cells.{cells_of, cells_of_op}
 use Rattle.waff_model.specs.Layout.{Space}
 use Rattle.waff_model.specs.Messages.{IsMessage, no_client, sizes_of}
 use Rattle.waff_model.specs.Names.{is_name}
-use Rattle.waff_model.specs.Versions.{has_clients, has_releases, max_messages, max_ops}
+use Rattle.waff_model.specs.Versions.{has_after, has_clients, has_releases, max_messages, max_ops}
+use Rattle.waff_model.specs.declared.awaits.Await.{Await}
 use Rattle.waff_model.specs.declared.limits.TheConstants.{MAX_ALL_OPS, MAX_COST, MAX_RELEASE, MAX_THINK}
 use Rattle.waff_model.specs.declared.message.Message.{Message}
 use Rattle.waff_model.specs.declared.message.Version.{Version}
-use Rattle.waff_model.specs.declared.message.Version.TheVariants.{V1, V2, V3}
 use Rattle.waff_model.specs.declared.op.Op.{Op}
 use Rattle.waff_parse.specs.Fields.{Field, field_of}
 use Rattle.waff_parse.specs.Refusals.{◌>>=◌, one}
@@ -23,6 +23,7 @@ use Rattle.waff_parse.specs.Texts.{number_of, number_within, parts, within}
 use Rattle.waff_parse.specs.Walks.{gather}
 use Rattle.waff_parse.proofs.Laws.{gather-if, gather-length}
 use Rattle.waff_parse.proofs.TextLaws.{parts-cons}
+use Rattle.waff_read.specs.Awaits.{after_of}
 use Rattle.waff_read.specs.Messages.{Columns, client_of, cost_of, columns_with, counted, header_row, message_of, message_of_columns, message_of_row, name_of, only, release_of, think_of}
 use Rattle.waff_read.specs.Ops.{op_of}
 use Rattle.waff_read.specs.Pieces.{joined, ops_of, or_range, piece_of, pieces_of}
@@ -33,6 +34,7 @@ use Rattle.waff_read.specs.declared.place.Place.{Place}
 use Rattle.waff_read.specs.declared.range.Range.{Range}
 use Rattle.waff_read.specs.declared.trace_fault.TraceFault.{TraceFault}
 use Rattle.waff_read.specs.declared.trace_fault.TraceFault.TheVariants as fault
+use Rattle.waff_read.proofs.AwaitLaws.{IsAwaited, after_of-awaited}
 use Rattle.waff_read.proofs.OpLaws.{AllLie, Lies, OpLies, op_of-lies}
 use Rattle.waff_read.proofs.RangeLaws.{IsRange, ops_on-lie, ops_on-some, range_of-is}
 
@@ -65,14 +67,19 @@ either-are spaces range (Err fault.TooManyMessages) p q = tt
 either-are spaces range (Err fault.Release) p q = tt
 either-are spaces range (Err fault.Client) p q = tt
 either-are spaces range (Err fault.Think) p q = tt
+either-are spaces range (Err fault.After) p q = tt
+either-are spaces range (Err fault.TooManyAfter) p q = tt
 
 piece_of-are : (version : Version) (spaces : List Space) (piece : List ℕ) → IfOk (piece_of version spaces piece) (AreSome spaces)
 unfolding piece_of
-piece_of-are V1 spaces piece = one-are spaces (op_of spaces piece) (op_of-lies spaces piece)
-piece_of-are V2 spaces piece = one-are spaces (op_of spaces piece) (op_of-lies spaces piece)
-piece_of-are V3 spaces piece =
-    either-are spaces (ops_of_range (range_of spaces piece)) (one (op_of spaces piece))
-    (range-are spaces (range_of spaces piece) (range_of-is spaces piece)) (one-are spaces (op_of spaces piece) (op_of-lies spaces piece))
+piece_of-are version spaces piece = by (has_clients version)
+  where
+    single : IfOk (one (op_of spaces piece)) (AreSome spaces)
+    single = one-are spaces (op_of spaces piece) (op_of-lies spaces piece)
+
+    by : (b : Bool) → IfOk (if b then or_range (ops_of_range (range_of spaces piece)) (one (op_of spaces piece)) else one (op_of spaces piece)) (AreSome spaces)
+    by true = either-are spaces (ops_of_range (range_of spaces piece)) (one (op_of spaces piece)) (range-are spaces (range_of spaces piece) (range_of-is spaces piece)) single
+    by false = single
 
 abbrev flat : List (List Op) → List Op
 flat lists = flat_map (λ list. list) lists
@@ -170,72 +177,85 @@ fits-most version place n few room = by (nat_le (max_ops version) (MAX_ALL_OPS -
     by true = few
     by false = omega (arith, room)
 
--- a message that is read is within the limits, and neither it nor its operations are too many
+-- a message that is read is within the limits, and neither it nor its operations nor its list are too many
 pub record Fits (version : Version) (spaces : List Space) (place : Place) (message : Message) : Type 0 where
   pub within : IsMessage version (sizes_of spaces) message
   pub counted : place.at ≤ max_messages version + 1
   pub room : place.ops + length message.ops ≤ MAX_ALL_OPS
+  pub after : IsAwaited place message.after
 
 abbrev IsReleaseOf : Version → ℕ → Type 0
-IsReleaseOf version release = (release ≤ MAX_RELEASE) × (version ≡ V1 → release ≡ 0)
+IsReleaseOf version release = (release ≤ MAX_RELEASE) × (has_releases version ≡ false → release ≡ 0)
 
 abbrev IsClientOf : Version → Field → Type 0
-IsClientOf version client = (is_name client ≡ true) × (version ≢ V3 → client ≡ no_client)
+IsClientOf version client = (is_name client ≡ true) × (has_clients version ≡ false → client ≡ no_client)
 
 abbrev IsThinkOf : Version → ℕ → Type 0
-IsThinkOf version think = (think ≤ MAX_THINK) × (version ≢ V3 → think ≡ 0)
+IsThinkOf version think = (think ≤ MAX_THINK) × (has_clients version ≡ false → think ≡ 0)
 
-released : (version : Version) → (version ≡ V1 → ⊥) → (text : Field) → IfOk (release_of (Some text)) (IsReleaseOf version)
-released version later text = by (number_within 0 MAX_RELEASE text) (number_within-within 0 MAX_RELEASE text)
-  where
-    by : (o : Option ℕ) → IfSome o (λ n. (0 ≤ n) × (n ≤ MAX_RELEASE)) → IfOk (ok_or o fault.Release) (IsReleaseOf version)
-    by None h = tt
-    by (Some n) h = (h.1, λ same. absurd (later same))
-
-named : (text : Field) → IfOk (client_of (Some text)) (IsClientOf V3)
-named text = by (is_name text) refl
-  where
-    by : (b : Bool) → is_name text ≡ b → IfOk (if b then Ok text else Err fault.Client) (IsClientOf V3)
-    by true h = (h, λ other. absurd (other refl))
-    by false h = tt
-
-thought : (text : Field) → IfOk (think_of (Some text)) (IsThinkOf V3)
-thought text = by (number_within 0 MAX_THINK text) (number_within-within 0 MAX_THINK text)
-  where
-    by : (o : Option ℕ) → IfSome o (λ n. (0 ≤ n) × (n ≤ MAX_THINK)) → IfOk (ok_or o fault.Think) (IsThinkOf V3)
-    by None h = tt
-    by (Some n) h = (h.1, λ other. absurd (other refl))
+abbrev IsAfterOf : Version → Place → List Await → Type 0
+IsAfterOf version place list = IsAwaited place list × (has_after version ≡ false → list ≡ [])
 
 -- what the columns of a version tell
 told-release : (version : Version) (text : Field) → IfOk (release_of (only (has_releases version) text)) (IsReleaseOf version)
-told-release V1 text = (omega arith, λ _. refl)
-told-release V2 text = released V2 (λ same. cc same) text
-told-release V3 text = released V3 (λ same. cc same) text
+told-release version text = by (has_releases version) refl
+  where
+    some : (o : Option ℕ) → has_releases version ≡ true → IfSome o (λ n. (0 ≤ n) × (n ≤ MAX_RELEASE)) → IfOk (ok_or o fault.Release) (IsReleaseOf version)
+    some None has h = tt
+    some (Some n) has h = (h.1, λ none. absurd (both_ways (has_releases version) none has))
+
+    by : (b : Bool) → has_releases version ≡ b → IfOk (release_of (only b text)) (IsReleaseOf version)
+    by true has = some (number_within 0 MAX_RELEASE text) has (number_within-within 0 MAX_RELEASE text)
+    by false none = (omega arith, λ _. refl)
 
 told-client : (version : Version) (text : Field) → IfOk (client_of (only (has_clients version) text)) (IsClientOf version)
-told-client V1 text = (refl, λ _. refl)
-told-client V2 text = (refl, λ _. refl)
-told-client V3 text = named text
+told-client version text = by (has_clients version) refl
+  where
+    some : (b : Bool) → is_name text ≡ b → has_clients version ≡ true → IfOk (if b then Ok text else Err fault.Client) (IsClientOf version)
+    some true h has = (h, λ none. absurd (both_ways (has_clients version) none has))
+    some false h has = tt
+
+    by : (b : Bool) → has_clients version ≡ b → IfOk (client_of (only b text)) (IsClientOf version)
+    by true has = some (is_name text) refl has
+    by false none = (refl, λ _. refl)
 
 told-think : (version : Version) (text : Field) → IfOk (think_of (only (has_clients version) text)) (IsThinkOf version)
-told-think V1 text = (omega arith, λ _. refl)
-told-think V2 text = (omega arith, λ _. refl)
-told-think V3 text = thought text
+told-think version text = by (has_clients version) refl
+  where
+    some : (o : Option ℕ) → has_clients version ≡ true → IfSome o (λ n. (0 ≤ n) × (n ≤ MAX_THINK)) → IfOk (ok_or o fault.Think) (IsThinkOf version)
+    some None has h = tt
+    some (Some n) has h = (h.1, λ none. absurd (both_ways (has_clients version) none has))
+
+    by : (b : Bool) → has_clients version ≡ b → IfOk (think_of (only b text)) (IsThinkOf version)
+    by true has = some (number_within 0 MAX_THINK text) has (number_within-within 0 MAX_THINK text)
+    by false none = (omega arith, λ _. refl)
+
+told-after : (version : Version) (place : Place) (text : Field) → IfOk (after_of place (only (has_after version) text)) (IsAfterOf version place)
+told-after version place text = by (has_after version) refl
+  where
+    some : (r : Result (List Await) TraceFault) → has_after version ≡ true → IfOk r (IsAwaited place) → IfOk r (IsAfterOf version place)
+    some (Ok list) has h = (h, λ none. absurd (both_ways (has_after version) none has))
+    some (Err e) has h = tt
+
+    by : (b : Bool) → has_after version ≡ b → IfOk (after_of place (only b text)) (IsAfterOf version place)
+    by true has = some (after_of place (Some text)) has (after_of-awaited place (Some text))
+    by false none = (after_of-awaited place None, λ _. refl)
 
 message_of_columns-fits : (version : Version) (spaces : List Space) (place : Place) (columns : Columns)
     → IfOk (release_of columns.release) (IsReleaseOf version) → IfOk (client_of columns.client) (IsClientOf version) → IfOk (think_of columns.think) (IsThinkOf version)
+    → IfOk (after_of place columns.after) (IsAfterOf version place)
     → IfOk (message_of_columns version spaces place columns) (Fits version spaces place)
 unfolding message_of_columns
-message_of_columns-fits version spaces place columns released named_client thought =
+message_of_columns-fits version spaces place columns released named_client thought listed =
     by (name_of columns.name) (cost_of columns.cost) (ops_of version spaces (most_ops version place) columns.ops) (counted version place.at) (release_of columns.release)
-    (client_of columns.client) (think_of columns.think)
+    (client_of columns.client) (think_of columns.think) (after_of place columns.after)
     (name_of-named columns.name) (ok_or-if (λ c. (1 ≤ c) × (c ≤ MAX_COST)) (number_within 1 MAX_COST columns.cost) fault.Cost (number_within-within 1 MAX_COST columns.cost))
-    (ops_of-within version spaces (most_ops version place) columns.ops) (counted-few version place.at) released named_client thought
+    (ops_of-within version spaces (most_ops version place) columns.ops) (counted-few version place.at) released named_client thought listed
   where
     by : (n : Result Field TraceFault) (c : Result ℕ TraceFault) (o : Result (List Op) TraceFault) (a : Result ℕ TraceFault) (r : Result ℕ TraceFault)
-        (k : Result Field TraceFault) (t : Result ℕ TraceFault)
+        (k : Result Field TraceFault) (t : Result ℕ TraceFault) (l : Result (List Await) TraceFault)
         → IfOk n (λ name. is_name name ≡ true) → IfOk c (λ cost. (1 ≤ cost) × (cost ≤ MAX_COST)) → IfOk o (AreOps spaces (most_ops version place))
-        → IfOk a (λ _. place.at ≤ max_messages version + 1) → IfOk r (IsReleaseOf version) → IfOk k (IsClientOf version) → IfOk t (IsThinkOf version)
+        → IfOk a (λ _. place.at ≤ max_messages version + 1) → IfOk r (IsReleaseOf version) → IfOk k (IsClientOf version) → IfOk t (IsThinkOf version) → IfOk l (IsAfterOf version place)
         → IfOk (do
           name ← n
           cost ← c
@@ -244,15 +264,17 @@ message_of_columns-fits version spaces place columns released named_client thoug
           release ← r
           client ← k
           think ← t
-          Ok (record { name = name; cost = cost; release = release; client = client; think = think; ops = ops })) (Fits version spaces place)
-    by (Err e) c o a r k t hn hc ho ha hr hk ht = tt
-    by (Ok n) (Err e) o a r k t hn hc ho ha hr hk ht = tt
-    by (Ok n) (Ok c) (Err e) a r k t hn hc ho ha hr hk ht = tt
-    by (Ok n) (Ok c) (Ok o) (Err e) r k t hn hc ho ha hr hk ht = tt
-    by (Ok n) (Ok c) (Ok o) (Ok a) (Err e) k t hn hc ho ha hr hk ht = tt
-    by (Ok n) (Ok c) (Ok o) (Ok a) (Ok r) (Err e) t hn hc ho ha hr hk ht = tt
-    by (Ok n) (Ok c) (Ok o) (Ok a) (Ok r) (Ok k) (Err e) hn hc ho ha hr hk ht = tt
-    by (Ok n) (Ok c) (Ok o) (Ok a) (Ok r) (Ok k) (Ok t) hn hc ho ha hr hk ht =
+          after ← l
+          Ok (record { name = name; cost = cost; release = release; client = client; think = think; after = after; ops = ops })) (Fits version spaces place)
+    by (Err e) c o a r k t l hn hc ho ha hr hk ht hl = tt
+    by (Ok n) (Err e) o a r k t l hn hc ho ha hr hk ht hl = tt
+    by (Ok n) (Ok c) (Err e) a r k t l hn hc ho ha hr hk ht hl = tt
+    by (Ok n) (Ok c) (Ok o) (Err e) r k t l hn hc ho ha hr hk ht hl = tt
+    by (Ok n) (Ok c) (Ok o) (Ok a) (Err e) k t l hn hc ho ha hr hk ht hl = tt
+    by (Ok n) (Ok c) (Ok o) (Ok a) (Ok r) (Err e) t l hn hc ho ha hr hk ht hl = tt
+    by (Ok n) (Ok c) (Ok o) (Ok a) (Ok r) (Ok k) (Err e) l hn hc ho ha hr hk ht hl = tt
+    by (Ok n) (Ok c) (Ok o) (Ok a) (Ok r) (Ok k) (Ok t) (Err e) hn hc ho ha hr hk ht hl = tt
+    by (Ok n) (Ok c) (Ok o) (Ok a) (Ok r) (Ok k) (Ok t) (Ok l) hn hc ho ha hr hk ht hl =
         let least = lesser-both (max_ops version) (MAX_ALL_OPS - place.ops) in
         let some = ho.some in
         let few = ho.few in
@@ -267,22 +289,25 @@ message_of_columns-fits version spaces place columns released named_client thoug
             no_client = hk.1;
             within_think = ht.0;
             no_think = ht.1;
+            no_list = hl.1;
             some_ops = ho.some;
             within_ops = omega (arith, few, least.0);
             cells = ho.lie;
           };
           counted = ha;
           room = omega (arith, some, few, least.1);
+          after = hl.0;
         }
 
 pub message_of-fits : (version : Version) (spaces : List Space) (place : Place) (row : Record) → IfOk (message_of version spaces place row) (Fits version spaces place)
 message_of-fits version spaces place row =
     by (length row == length (header_row version))
-    (columns_with version (field_of row 0) (field_of row 1) (field_of row 2) (field_of row 3) (field_of row 4) (field_of row (length row - 1)))
-    (told-release version (field_of row 2)) (told-client version (field_of row 3)) (told-think version (field_of row 4))
+    (columns_with version (field_of row 0) (field_of row 1) (field_of row 2) (field_of row 3) (field_of row 4) (field_of row 5) (field_of row (length row - 1)))
+    (told-release version (field_of row 2)) (told-client version (field_of row 3)) (told-think version (field_of row 4)) (told-after version place (field_of row 5))
   where
     by : (many : Bool) (columns : Columns)
         → IfOk (release_of columns.release) (IsReleaseOf version) → IfOk (client_of columns.client) (IsClientOf version) → IfOk (think_of columns.think) (IsThinkOf version)
+        → IfOk (after_of place columns.after) (IsAfterOf version place)
         → IfOk (message_of_row version spaces place (if many then Some columns else None)) (Fits version spaces place)
-    by true columns released client thought = message_of_columns-fits version spaces place columns released client thought
-    by false columns released client thought = tt
+    by true columns released client thought listed = message_of_columns-fits version spaces place columns released client thought listed
+    by false columns released client thought listed = tt

@@ -1,5 +1,5 @@
 -- Operations, of which one more than the limit is kept.
-use Rattle.std.proofs.Common.{◌≡◌, ◌≢◌, ℕ, zero, suc, ◌+◌, ◌-◌, ◌≤◌, ◌<◌, List, [], ◌∷◌, ◌++◌, length, map, take, false, Option, Some, None, Result, Ok, Err, refl, sym, ap, ◌∙◌, append_assoc, arith}
+use Rattle.std.proofs.Common.{◌≡◌, ◌≢◌, ℕ, zero, suc, ◌+◌, ◌-◌, ◌≤◌, ◌<◌, List, [], ◌∷◌, ◌++◌, length, map, take, Bool, true, false, Option, Some, None, Result, Ok, Err, refl, sym, ap, ◌∙◌, append_assoc, arith}
 use Rattle.std.specs.Prelude.{◌==◌, nat_lt, if◌then◌else◌}
 use Rattle.std.specs.List.{range_with_len}
 use Rattle.std.proofs.lemmas.Grind.{flat_map-append}
@@ -7,14 +7,14 @@ use Rattle.std.proofs.lemmas.List.{append-nil, length-append, length-take, take_
 use Rattle.std.proofs.lemmas.Bool.{le-ltb, lt-ltb}
 use Rattle.waff_model.specs.Layout.{Space}
 use Rattle.waff_model.specs.PackedOps.{cell_at}
+use Rattle.waff_model.specs.Versions.{has_clients}
 use Rattle.waff_model.specs.declared.message.Version.{Version}
-use Rattle.waff_model.specs.declared.message.Version.TheVariants.{V1, V2, V3}
 use Rattle.waff_model.specs.declared.op.Op.{Op}
 use Rattle.waff_parse.specs.Refusals.{◌>>=◌, both, one}
 use Rattle.waff_parse.specs.Walks.{gather}
 use Rattle.waff_parse.proofs.Laws.{gather-push}
 use Rattle.waff_read.specs.Ops.{op_of}
-use Rattle.waff_read.specs.Pieces.{first_ops, joined, least_of, ops_of, piece_of, pieces_of}
+use Rattle.waff_read.specs.Pieces.{first_ops, joined, least_of, ops_of, or_range, piece_of, pieces_of}
 use Rattle.waff_read.specs.Ranges.{op_on, ops_of_range, range_of}
 use Rattle.waff_read.specs.TraceFaults.{number}
 use Rattle.waff_read.specs.declared.range.Deed.{Deed}
@@ -83,34 +83,46 @@ module _ (version : Version) (spaces : List Space) (most : ℕ) (pieces : List (
 -- a piece that is an operation stands for it
 pub piece-op : (version : Version) (spaces : List Space) (piece : List ℕ) (op : Op) → Ok op ≡ op_of spaces piece → Ok (op ∷ []) ≡ piece_of version spaces piece
 unfolding piece_of
-piece-op V1 spaces piece op is = rw (← is) refl
-piece-op V2 spaces piece op is = rw (← is) refl
-piece-op V3 spaces piece op is = rw (← is) refl
+piece-op version spaces piece op is = rw (← is) (by (has_clients version))
+  where
+    by : (b : Bool) → ◌≡◌ {A = Result (List Op) TraceFault} (Ok (op ∷ [])) (if b then Ok (op ∷ []) else Ok (op ∷ []))
+    by true = refl
+    by false = refl
 
--- a piece that is none stands for a range in the third version, where it is misspelled as an operation
-pub piece-range : (spaces : List Space) (piece : List ℕ) → op_of spaces piece ≡ Err fault.Op → ops_of_range (range_of spaces piece) ≡ piece_of V3 spaces piece
+-- a piece that is none stands for a range where messages have clients and it is misspelled as an operation
+pub piece-range : (version : Version) (spaces : List Space) (piece : List ℕ) → has_clients version ≡ true → op_of spaces piece ≡ Err fault.Op
+    → ops_of_range (range_of spaces piece) ≡ piece_of version spaces piece
 unfolding piece_of
-piece-range spaces piece is = rw is refl
+piece-range version spaces piece has is = rw (has, is) refl
 
-pub piece-fault : (version : Version) (spaces : List Space) (piece : List ℕ) (e : TraceFault) → op_of spaces piece ≡ Err e
-    → (version ≡ V3 → number e ≢ number fault.Op) → Err e ≡ piece_of version spaces piece
+-- another fault of an operation is told
+pub piece-earlier : (version : Version) (spaces : List Space) (piece : List ℕ) (e : TraceFault) → has_clients version ≡ false → op_of spaces piece ≡ Err e
+    → Err e ≡ piece_of version spaces piece
 unfolding piece_of
-piece-fault V1 spaces piece e is other = rw is refl
-piece-fault V2 spaces piece e is other = rw is refl
-piece-fault V3 spaces piece fault.Csv is other = rw is refl
-piece-fault V3 spaces piece fault.Header is other = rw is refl
-piece-fault V3 spaces piece fault.Fields is other = rw is refl
-piece-fault V3 spaces piece fault.Name is other = rw is refl
-piece-fault V3 spaces piece fault.Cost is other = rw is refl
-piece-fault V3 spaces piece fault.NoOps is other = rw is refl
-piece-fault V3 spaces piece fault.Op is other = absurd (other refl refl)
-piece-fault V3 spaces piece fault.SpaceUnknown is other = rw is refl
-piece-fault V3 spaces piece fault.IndexTooLarge is other = rw is refl
-piece-fault V3 spaces piece fault.TooManyOps is other = rw is refl
-piece-fault V3 spaces piece fault.TooManyMessages is other = rw is refl
-piece-fault V3 spaces piece fault.Release is other = rw is refl
-piece-fault V3 spaces piece fault.Client is other = rw is refl
-piece-fault V3 spaces piece fault.Think is other = rw is refl
+piece-earlier version spaces piece e none is = rw (none, is) refl
+
+or_range-other : (range : Result (List Op) TraceFault) (e : TraceFault) → number e ≢ number fault.Op → Err e ≡ or_range range (Err e)
+or_range-other range fault.Csv other = refl
+or_range-other range fault.Header other = refl
+or_range-other range fault.Fields other = refl
+or_range-other range fault.Name other = refl
+or_range-other range fault.Cost other = refl
+or_range-other range fault.NoOps other = refl
+or_range-other range fault.Op other = absurd (other refl)
+or_range-other range fault.SpaceUnknown other = refl
+or_range-other range fault.IndexTooLarge other = refl
+or_range-other range fault.TooManyOps other = refl
+or_range-other range fault.TooManyMessages other = refl
+or_range-other range fault.Release other = refl
+or_range-other range fault.Client other = refl
+or_range-other range fault.Think other = refl
+or_range-other range fault.After other = refl
+or_range-other range fault.TooManyAfter other = refl
+
+pub piece-fault : (version : Version) (spaces : List Space) (piece : List ℕ) (e : TraceFault) → has_clients version ≡ true → op_of spaces piece ≡ Err e
+    → number e ≢ number fault.Op → Err e ≡ piece_of version spaces piece
+unfolding piece_of
+piece-fault version spaces piece e has is other = rw (has, is) (or_range-other (ops_of_range (range_of spaces piece)) e other)
 
 -- a fault of that number is a misspelling
 pub is-misspelled : (e : TraceFault) → number e ≡ number fault.Op → e ≡ fault.Op
@@ -128,6 +140,8 @@ is-misspelled fault.TooManyMessages h = absurd (omega (arith, h))
 is-misspelled fault.Release h = absurd (omega (arith, h))
 is-misspelled fault.Client h = absurd (omega (arith, h))
 is-misspelled fault.Think h = absurd (omega (arith, h))
+is-misspelled fault.After h = absurd (omega (arith, h))
+is-misspelled fault.TooManyAfter h = absurd (omega (arith, h))
 
 -- one more fits
 pub kept-one : (n : ℕ) (list : List Op) (op : Op) → length list ≤ n → list ++ op ∷ [] ≡ take (n + 1) (list ++ op ∷ [])

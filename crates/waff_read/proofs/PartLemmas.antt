@@ -46,7 +46,7 @@ parted_fails c p fails text a b more e =
     absurd (cc (sym whole ∙ e)))
 
 -- a text of one part is that part
-part_is : (c : ℕ) (text a : List ℕ) → parts c text ≡ a ∷ [] → a ≡ text
+pub part_is : (c : ℕ) (text a : List ℕ) → parts c text ≡ a ∷ [] → a ≡ text
 part_is c text a e = ap (λ (ps : List (List ℕ)). join_with_byte c ps) (sym e) ∙ join_with_byte-slice_split c text
 
 -- a text of two parts is both with the byte between
@@ -59,7 +59,7 @@ no_digits text h =
     let inner = and_right (not (has_leading_zero text)) (list_all is_ascii_digit text) h in
     rw (and_right (not (length text == 0)) (not (has_leading_zero text) && list_all is_ascii_digit text) inner) refl
 
-no_number : (c : ℕ) → is_ascii_digit c ≡ false → (text a b : List ℕ) (more : List (List ℕ)) → parts c text ≡ a ∷ b ∷ more → number_of text ≡ None
+pub no_number : (c : ℕ) → is_ascii_digit c ≡ false → (text a b : List ℕ) (more : List (List ℕ)) → parts c text ≡ a ∷ b ∷ more → number_of text ≡ None
 no_number c out text a b more e = no_digits text (parted_fails c is_ascii_digit out text a b more e)
 
 -- a text that a space parts is no number below 2^64

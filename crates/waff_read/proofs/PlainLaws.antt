@@ -17,7 +17,7 @@ use Rattle.memchr.specs.Find.{IsFirstByte, Nowhere, Passes, is_byte2}
 use Rattle.waff_model.specs.Layout.{Space}
 use Rattle.waff_model.specs.declared.message.Message.{Message}
 use Rattle.waff_model.specs.declared.message.Version.{Version}
-use Rattle.waff_model.specs.Versions.{has_clients, has_releases}
+use Rattle.waff_model.specs.Versions.{has_after, has_clients, has_releases}
 use Rattle.waff_parse.specs.Rows.{Record, is_text, records_after, records_of}
 use Rattle.waff_parse.specs.Stopping.{Gives}
 use Rattle.waff_parse.specs.declared.stop.Stop.{Stop}
@@ -110,7 +110,7 @@ line_is_row : (version : Version) {text rest : List ℕ} (columns : Columns) →
     → IsRow version text columns rest
 unfolding is_blank
 line_is_row version {text} {rest} columns line is =
-    let others = there columns.release ++ (there columns.client ++ (there columns.think ++ columns.ops ∷ [])) in
+    let others = there columns.release ++ (there columns.client ++ (there columns.think ++ (there columns.after ++ columns.ops ∷ []))) in
     let whole = line.whole ∙ sym (append_assoc (row_body default_writer (row_of columns)) (10 ∷ []) rest) in
     record {
       row = row_of columns;
@@ -127,28 +127,32 @@ pub record AreFields (version : Version) (text : List ℕ) (columns : Columns) (
   pub behind_release : List ℕ
   pub behind_client : List ℕ
   pub behind_think : List ℕ
+  pub behind_after : List ℕ
   pub name : IsField 44 text columns.name behind_name
   pub cost : IsField 44 behind_name columns.cost behind_cost
   pub release : IsFieldIf (has_releases version) behind_cost columns.release behind_release
   pub client : IsFieldIf (has_clients version) behind_release columns.client behind_client
   pub think : IsFieldIf (has_clients version) behind_client columns.think behind_think
-  pub ops : IsField 10 behind_think columns.ops rest
+  pub after : IsFieldIf (has_after version) behind_think columns.after behind_after
+  pub ops : IsField 10 behind_after columns.ops rest
 
 pub fields_are_row : (version : Version) (text : List ℕ) (columns : Columns) (rest : List ℕ) → AreFields version text columns rest → IsRow version text columns rest
 fields_are_row version text columns rest f =
-    let think = more_if (has_clients version) columns.think _ f.think (last_field f.ops) in
+    let after = more_if (has_after version) columns.after _ f.after (last_field f.ops) in
+    let think = more_if (has_clients version) columns.think _ f.think after in
     let client = more_if (has_clients version) columns.client _ f.client think in
     let release = more_if (has_releases version) columns.release _ f.release client in
     let line = more_fields _ f.name (more_fields _ f.cost release) in
     line_is_row version columns line (subst (λ (c : Columns). columns_of version (row_of c) ≡ Some c) (sym same)
-    (columns_there version columns.name columns.cost (unwrap_or columns.release []) (unwrap_or columns.client []) (unwrap_or columns.think []) columns.ops))
+    (columns_there version columns.name columns.cost (unwrap_or columns.release []) (unwrap_or columns.client []) (unwrap_or columns.think []) (unwrap_or columns.after []) columns.ops))
   where
-    same : columns ≡ columns_with version columns.name columns.cost (unwrap_or columns.release []) (unwrap_or columns.client []) (unwrap_or columns.think []) columns.ops
+    same : columns ≡ columns_with version columns.name columns.cost (unwrap_or columns.release []) (unwrap_or columns.client []) (unwrap_or columns.think []) (unwrap_or columns.after []) columns.ops
     same =
         let release = only_if (has_releases version) f.behind_cost columns.release f.behind_release f.release in
         let client = only_if (has_clients version) f.behind_release columns.client f.behind_client f.client in
         let think = only_if (has_clients version) f.behind_client columns.think f.behind_think f.think in
-        rw (← release, ← client, ← think) refl
+        let after = only_if (has_after version) f.behind_think columns.after f.behind_after f.after in
+        rw (← release, ← client, ← think, ← after) refl
 
 -- its message
 pub row_message : (version : Version) (spaces : List Space) (place : Place) (text rest : List ℕ) (columns : Columns) (message : Message) (r : Result Message (Stop TraceFault))

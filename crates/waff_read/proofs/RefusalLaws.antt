@@ -1,17 +1,18 @@
 -- Of the checks that hold of a record, the one of least number is told.
-use Rattle.std.proofs.Common.{◌≡◌, ◌≢◌, ℕ, zero, suc, ◌+◌, ◌<◌, ◌≤◌, List, [], ◌∷◌, length, Bool, true, false, Option, Some, None, Result, Ok, Err, refl, sym, ap, ◌∙◌, arith, inl, inr, ◌⊎◌}
+use Rattle.std.proofs.Common.{◌≡◌, ◌≢◌, ℕ, zero, suc, ◌+◌, ◌-◌, ◌<◌, ◌≤◌, List, [], ◌∷◌, length, Bool, true, false, Option, Some, None, Result, Ok, Err, refl, sym, ap, ◌∙◌, arith, inl, inr, ◌⊎◌}
 use Rattle.std.specs.Prelude.{Contains, IfErr, codes, ok_or, option_and_then, nat_le, nat_lt, ◌==◌, if◌then◌else◌}
 use Rattle.std.specs.List.{flat_map}
 use Rattle.std.specs.Str.{bytes_eq}
-use Rattle.std.proofs.lemmas.Bool.{cases_lt, leb-true, leb-false, ltb-true, ltb-false, eqb-true, eqb-false}
+use Rattle.std.proofs.lemmas.Bool.{both_ways, cases_lt, leb-true, leb-false, ltb-true, ltb-false, eqb-true, eqb-false}
+use Rattle.waff_model.specs.Awaits.{IsList}
 use Rattle.waff_model.specs.Layout.{Space, size_at, space_named}
 use Rattle.waff_model.specs.Names.{is_name}
-use Rattle.waff_model.specs.Versions.{max_messages}
+use Rattle.waff_model.specs.Versions.{has_clients, max_messages}
+use Rattle.waff_model.specs.declared.awaits.Await.{Await}
 use Rattle.waff_model.specs.declared.cell.Cell.{Cell}
 use Rattle.waff_model.specs.declared.limits.TheConstants.{MAX_COST, MAX_RELEASE, MAX_THINK}
 use Rattle.waff_model.specs.declared.message.Message.{Message}
 use Rattle.waff_model.specs.declared.message.Version.{Version}
-use Rattle.waff_model.specs.declared.message.Version.TheVariants.{V1, V2, V3}
 use Rattle.waff_model.specs.declared.op.Op.{Op}
 use Rattle.waff_model.specs.declared.op.Op.TheVariants as op
 use Rattle.waff_model.specs.declared.op.Verb.{Verb}
@@ -20,11 +21,12 @@ use Rattle.waff_parse.specs.Fields.{Field, three_of, two_of}
 use Rattle.waff_parse.specs.Refusals.{◌>>=◌, both, one, pair}
 use Rattle.waff_parse.specs.Texts.{are_rising, number_of, number_within, parts, small}
 use Rattle.waff_parse.specs.Walks.{gather}
-use Rattle.waff_read.specs.Laws.{HasPiece, HasTraceFault, IsLeastCheck, LeastCheckDecides, SpellOps}
+use Rattle.waff_read.specs.Awaits.{after_of, are_between, awaits_of, list_of}
+use Rattle.waff_read.specs.Laws.{HasPiece, HasTraceFault, IsAfter, IsLeastCheck, LeastCheckDecides, SpellAwaits, SpellOps}
 use Rattle.waff_read.specs.Messages.{Columns, client_of, cost_of, counted, message_of_columns, name_of, release_of, think_of}
 use Rattle.waff_read.specs.Ops.{cell_and, cell_of, cell_of_name, cell_of_parts, one_cell, op_of, op_of_verb, op_of_words, value_of, verb_named}
 use Rattle.waff_read.specs.Pieces.{joined, ops_of, or_range, piece_of, pieces_of}
-use Rattle.waff_read.specs.Places.{most_ops}
+use Rattle.waff_read.specs.Places.{most_awaited, most_ops}
 use Rattle.waff_read.specs.Ranges.{ends_of, ops_of_range, range_of, range_of_words, range_to}
 use Rattle.waff_read.specs.TraceFaults.{number}
 use Rattle.waff_read.specs.declared.place.Place.{Place}
@@ -32,7 +34,8 @@ use Rattle.waff_read.specs.declared.range.Deed.TheVariants as deed
 use Rattle.waff_read.specs.declared.range.Range.{Range}
 use Rattle.waff_read.specs.declared.trace_fault.TraceFault.{TraceFault}
 use Rattle.waff_read.specs.declared.trace_fault.TraceFault.TheVariants as fault
-use Rattle.waff_read.proofs.ExactLaws.{counted-read, gather-read, name_of-read, read-gather}
+use Rattle.waff_read.proofs.AwaitLaws.{are_list, awaits_of-fault, list_are}
+use Rattle.waff_read.proofs.ExactLaws.{awaits_of-read, counted-read, gather-read, name_of-read, read-awaits_of, read-gather}
 
 -- an element of a list with a head is the head, or one of the others
 contains_cases : {A : Type 0} (a : A) (xs : List A) (x : A) → Contains (a ∷ xs) x → (a ≡ x) ⊎ Contains xs x
@@ -261,21 +264,26 @@ of_either range (Err fault.TooManyMessages) p q = q
 of_either range (Err fault.Release) p q = q
 of_either range (Err fault.Client) p q = q
 of_either range (Err fault.Think) p q = q
+of_either range (Err fault.After) p q = q
+of_either range (Err fault.TooManyAfter) p q = q
 
 piece_of-fault : (version : Version) (spaces : List Space) (piece : List ℕ) → OfPiece (piece_of version spaces piece)
 unfolding piece_of
-piece_of-fault V1 spaces piece = of_one (op_of spaces piece) (op_of-fault spaces piece)
-piece_of-fault V2 spaces piece = of_one (op_of spaces piece) (op_of-fault spaces piece)
-piece_of-fault V3 spaces piece =
-    of_either (ops_of_range (range_of spaces piece)) (one (op_of spaces piece))
-    (of_range (range_of spaces piece) (range_of-fault spaces piece)) (of_one (op_of spaces piece) (op_of-fault spaces piece))
+piece_of-fault version spaces piece = by (has_clients version)
+  where
+    single : OfPiece (one (op_of spaces piece))
+    single = of_one (op_of spaces piece) (op_of-fault spaces piece)
+
+    by : (b : Bool) → OfPiece (if b then or_range (ops_of_range (range_of spaces piece)) (one (op_of spaces piece)) else one (op_of spaces piece))
+    by true = of_either (ops_of_range (range_of spaces piece)) (one (op_of spaces piece)) (of_range (range_of spaces piece) (range_of-fault spaces piece)) single
+    by false = single
 
 piece_number : (d : TraceFault) → IsOfPiece d → (7 ≤ number d) × (number d ≤ 9)
 piece_number d (inl same) = rw same (omega arith, omega arith)
 piece_number d (inr (inl same)) = rw same (omega arith, omega arith)
 piece_number d (inr (inr same)) = rw same (omega arith, omega arith)
 
--- what a name, a cost, a number of a record a release, a client and a think time are refused for
+-- what a name, a cost, a number of a record, a release, a client, a think time and a list are refused for
 name_of-refused : (name : Field) (d : TraceFault) → name_of name ≡ Err d → (d ≡ fault.Name) × (is_name name ≡ false)
 name_of-refused name d h = by (is_name name) h
   where
@@ -324,7 +332,62 @@ think_of-refused (Some text) d h =
     let why = option-refused (number_within 0 MAX_THINK text) fault.Think d h in
     (why.0, (text, refl, why.1))
 
+-- the text spells no list of message n
+abbrev NoList : ℕ → Field → Type 0
+NoList n text = (list : List Await) → SpellAwaits text list → ¬ IsList n list
+
+-- a list is refused for itself, or for too many of all messages, and is then one
+data AfterRefused (place : Place) (after : Option Field) : TraceFault → Type 0 where
+  no_list : IsField after (NoList (place.at - 1)) → AfterRefused place after fault.After
+  too_many : (list : List Await) → IsAfter (place.at - 1) after list → most_awaited place < length list → AfterRefused place after fault.TooManyAfter
+
+after_of-refused : (place : Place) (after : Option Field) (d : TraceFault) → after_of place after ≡ Err d → AfterRefused place after d
+unfolding list_of
+after_of-refused place None d h = absurd (cc)
+after_of-refused place (Some text) d h = by (awaits_of text) refl (awaits_of-fault text) h
+  where
+    many : (list : List Await) (b : Bool) → nat_lt (most_awaited place) (length list) ≡ b → IsAfter (place.at - 1) (Some text) list
+        → (if b then Err fault.TooManyAfter else Ok list) ≡ Err d → AfterRefused place (Some text) d
+    many list true over is e =
+        let same : fault.TooManyAfter ≡ d = cc in
+        rw (← same) (too_many list is (ltb-true (most_awaited place) (length list) over))
+    many list false over is e = absurd (cc)
+
+    only : (list other : List Await) → awaits_of text ≡ Ok list → SpellAwaits text other → other ≡ list
+    only list other all spelled = let again = read-awaits_of text other spelled in cc (sym again ∙ all)
+
+    limited : (list : List Await) (b : Bool) → are_between 0 (place.at - 1) list ≡ b → awaits_of text ≡ Ok list
+        → ((if b then Ok list else Err fault.After) >>= (λ list. if nat_lt (most_awaited place) (length list) then Err fault.TooManyAfter else Ok list)) ≡ Err d
+        → AfterRefused place (Some text) d
+    limited list true p all e =
+        many list (nat_lt (most_awaited place) (length list)) refl (awaits_of-read text list all, are_list (place.at - 1) list p) e
+    limited list false p all e =
+        let same : fault.After ≡ d = cc in
+        rw (← same)
+        (no_list (
+          text,
+          refl,
+          λ other spelled is.
+              both_ways (are_between 0 (place.at - 1) list) p (rw (only list other all spelled) at (list_are (place.at - 1) other is)),
+        ))
+
+    by : (r : Result (List Await) TraceFault) → awaits_of text ≡ r → IfErr r (λ e. e ≡ fault.After)
+        → ((r >>= (λ list. if are_between 0 (place.at - 1) list then Ok list else Err fault.After))
+        >>= (λ list. if nat_lt (most_awaited place) (length list) then Err fault.TooManyAfter else Ok list)) ≡ Err d
+        → AfterRefused place (Some text) d
+    by (Ok list) all is e = limited list (are_between 0 (place.at - 1) list) refl all e
+    by (Err c) all is e =
+        let same : c ≡ d = cc in
+        rw (← same, is) (no_list (text, refl, λ other spelled _. let read = read-awaits_of text other spelled in cc (sym read ∙ all)))
+
 -- what is read is not refused
+thought : (think : Option Field) (n : ℕ) → think_of think ≡ Ok n → IsField think (λ text. number_within 0 MAX_THINK text ≡ None) → ⊥
+thought think n h (text, is, none) = option-read (number_within 0 MAX_THINK text) fault.Think n (rw is at h) none
+
+-- a field with a list is not without one
+listed : (n : ℕ) (after : Option Field) (list : List Await) → IsAfter n after list → IsField after (NoList n) → ⊥
+listed n after list is (text, same, none) = let here = rw same at is in none list here.0 here.1
+
 released : (release : Option Field) (n : ℕ) → release_of release ≡ Ok n → IsField release (λ text. number_within 0 MAX_RELEASE text ≡ None) → ⊥
 released release n h (text, is, none) = option-read (number_within 0 MAX_RELEASE text) fault.Release n (rw is at h) none
 
@@ -423,7 +486,9 @@ module _ (version : Version) (spaces : List Space) (place : Place) (columns : Co
     counts : 11 < n → place.at ≤ max_messages version + 1
     released : 13 < n → HasTraceFault version spaces place columns fault.Release → ⊥
     told : 14 < n → HasTraceFault version spaces place columns fault.Client → ⊥
-    top : n ≤ 15
+    thinks : 15 < n → HasTraceFault version spaces place columns fault.Think → ⊥
+    lists : 16 < n → HasTraceFault version spaces place columns fault.After → ⊥
+    top : n ≤ 17
 
   -- so each check that holds has this number or a higher one
   at_least : (n : ℕ) → Below n → (other : TraceFault) → HasTraceFault version spaces place columns other → n ≤ number other
@@ -440,7 +505,9 @@ module _ (version : Version) (spaces : List Space) (place : Place) (columns : Co
   at_least n below fault.TooManyMessages h = elim (cases_lt 11 n) [ inl over ↦ let is = below.counts over in absurd (omega arith) | inr upto ↦ upto ]
   at_least n below fault.Release h = elim (cases_lt 13 n) [ inl over ↦ absurd (below.released over h) | inr upto ↦ upto ]
   at_least n below fault.Client h = elim (cases_lt 14 n) [ inl over ↦ absurd (below.told over h) | inr upto ↦ upto ]
-  at_least n below fault.Think h = below.top
+  at_least n below fault.Think h = elim (cases_lt 15 n) [ inl over ↦ absurd (below.thinks over h) | inr upto ↦ upto ]
+  at_least n below fault.After h = elim (cases_lt 16 n) [ inl over ↦ absurd (below.lists over h) | inr upto ↦ upto ]
+  at_least n below fault.TooManyAfter h = below.top
 
   -- a fault of a piece has number 7 at least
   pieces_late : (n : ℕ) → n ≤ 7 → (piece : List ℕ) (d : TraceFault) → Contains (parts 59 columns.ops) piece → piece_of version spaces piece ≡ Err d → n ≤ number d
@@ -462,6 +529,8 @@ module _ (version : Version) (spaces : List Space) (place : Place) (columns : Co
     counts = λ over. absurd (omega (arith, low, over));
     released = λ over. absurd (omega (arith, low, over));
     told = λ over. absurd (omega (arith, low, over));
+    thinks = λ over. absurd (omega (arith, low, over));
+    lists = λ over. absurd (omega (arith, low, over));
     top = omega (arith, low);
   }
 
@@ -482,6 +551,8 @@ module _ (version : Version) (spaces : List Space) (place : Place) (columns : Co
           counts = λ over. absurd (omega (arith, upto, over));
           released = λ over. absurd (omega (arith, upto, over));
           told = λ over. absurd (omega (arith, upto, over));
+          thinks = λ over. absurd (omega (arith, upto, over));
+          lists = λ over. absurd (omega (arith, upto, over));
           top = omega (arith, upto);
         });
       }
@@ -497,15 +568,18 @@ module _ (version : Version) (spaces : List Space) (place : Place) (columns : Co
           counts = λ late. absurd (omega (arith, late));
           released = λ late. absurd (omega (arith, late));
           told = λ late. absurd (omega (arith, late));
+          thinks = λ late. absurd (omega (arith, late));
+          lists = λ late. absurd (omega (arith, late));
           top = omega arith;
         });
       }
 
   -- where the operations are read
-  late : (n : ℕ) → n ≤ 15 → is_name columns.name ≡ true → number_within 1 MAX_COST columns.cost ≢ None → Read
+  late : (n : ℕ) → n ≤ 17 → is_name columns.name ≡ true → number_within 1 MAX_COST columns.cost ≢ None → Read
       → (11 < n → place.at ≤ max_messages version + 1) → (13 < n → HasTraceFault version spaces place columns fault.Release → ⊥)
-      → (14 < n → HasTraceFault version spaces place columns fault.Client → ⊥) → Below n
-  late n top named costs reads counts released told = record {
+      → (14 < n → HasTraceFault version spaces place columns fault.Client → ⊥) → (15 < n → HasTraceFault version spaces place columns fault.Think → ⊥)
+      → (16 < n → HasTraceFault version spaces place columns fault.After → ⊥) → Below n
+  late n top named costs reads counts released told thinks lists = record {
     named = λ _. named;
     costs = λ _. costs;
     some = λ _. reads.some;
@@ -514,22 +588,34 @@ module _ (version : Version) (spaces : List Space) (place : Place) (columns : Co
     counts = counts;
     released = released;
     told = told;
+    thinks = thinks;
+    lists = lists;
     top = top;
+  }
+
+  -- where all but the list is read
+  list_refused : (d : TraceFault) → AfterRefused place columns.after d
+      → ((n : ℕ) → n ≤ 17 → (16 < n → HasTraceFault version spaces place columns fault.After → ⊥) → Below n) → IsLeastCheck version spaces place columns d
+  list_refused d (no_list none) below = record { holds = none; least = at_least 16 (below 16 (omega arith) (λ over. absurd (omega (arith, over)))) }
+  list_refused d (too_many list is over) below = record {
+    holds = (list, is, over);
+    least = at_least 17 (below 17 (omega arith) (λ _. listed (place.at - 1) columns.after list is));
   }
 
   columns-refused : (e : TraceFault) → message_of_columns version spaces place columns ≡ Err e → IsLeastCheck version spaces place columns e
   unfolding message_of_columns
   columns-refused e h =
       by (name_of columns.name) (cost_of columns.cost) (ops_of version spaces (most_ops version place) columns.ops) (counted version place.at) (release_of columns.release)
-      (client_of columns.client) (think_of columns.think)
+      (client_of columns.client) (think_of columns.think) (after_of place columns.after)
       (name_of-read columns.name) (name_of-refused columns.name)
       (option-read (number_within 1 MAX_COST columns.cost) fault.Cost) (option-refused (number_within 1 MAX_COST columns.cost) fault.Cost)
       (ops_of-reads version spaces (most_ops version place) columns.ops) (ops_of-refused version spaces (most_ops version place) columns.ops)
       (counted-read version place.at) (counted-refused version place.at) (released columns.release) (release_of-refused columns.release)
-      (told_client columns.client) (client_of-refused columns.client) (think_of-refused columns.think) h
+      (told_client columns.client) (client_of-refused columns.client) (thought columns.think) (think_of-refused columns.think)
+      (after_of-refused place columns.after) h
     where
       by : (n : Result Field TraceFault) (c : Result ℕ TraceFault) (o : Result (List Op) TraceFault) (a : Result ℕ TraceFault) (r : Result ℕ TraceFault)
-          (k : Result Field TraceFault) (t : Result ℕ TraceFault)
+          (k : Result Field TraceFault) (t : Result ℕ TraceFault) (l : Result (List Await) TraceFault)
           → ((text : Field) → n ≡ Ok text → (is_name columns.name ≡ true) × (text ≡ columns.name))
           → ((d : TraceFault) → n ≡ Err d → (d ≡ fault.Name) × (is_name columns.name ≡ false))
           → ((k : ℕ) → c ≡ Ok k → number_within 1 MAX_COST columns.cost ≢ None)
@@ -542,7 +628,9 @@ module _ (version : Version) (spaces : List Space) (place : Place) (columns : Co
           → ((d : TraceFault) → r ≡ Err d → (d ≡ fault.Release) × HasTraceFault version spaces place columns fault.Release)
           → ((name : Field) → k ≡ Ok name → HasTraceFault version spaces place columns fault.Client → ⊥)
           → ((d : TraceFault) → k ≡ Err d → (d ≡ fault.Client) × HasTraceFault version spaces place columns fault.Client)
+          → ((m : ℕ) → t ≡ Ok m → HasTraceFault version spaces place columns fault.Think → ⊥)
           → ((d : TraceFault) → t ≡ Err d → (d ≡ fault.Think) × HasTraceFault version spaces place columns fault.Think)
+          → ((d : TraceFault) → l ≡ Err d → AfterRefused place columns.after d)
           → ◌≡◌ {A = Result Message TraceFault} (do
             text ← n
             cost ← c
@@ -551,55 +639,63 @@ module _ (version : Version) (spaces : List Space) (place : Place) (columns : Co
             ticks ← r
             client ← k
             think ← t
-            Ok (record { name = text; cost = cost; release = ticks; client = client; think = think; ops = list })) (Err e)
+            after ← l
+            Ok (record { name = text; cost = cost; release = ticks; client = client; think = think; after = after; ops = list })) (Err e)
           → IsLeastCheck version spaces place columns e
-      by (Err d) c o a r k t hn en hc ec ho eo ha ea hr er hk ek et same =
+      by (Err d) c o a r k t l hn en hc ec ho eo ha ea hr er hk ek ht et el same =
           let why = en d refl in
           let is : e ≡ fault.Name = sym (let one : d ≡ e = cc in one) ∙ why.0 in
           rw is (record { holds = why.1; least = at_least 4 (early 4 (omega arith) (λ over. absurd (omega (arith, over))) (λ over. absurd (omega (arith, over)))) })
-      by (Ok n) (Err d) o a r k t hn en hc ec ho eo ha ea hr er hk ek et same =
+      by (Ok n) (Err d) o a r k t l hn en hc ec ho eo ha ea hr er hk ek ht et el same =
           let why = ec d refl in
           let is : e ≡ fault.Cost = sym (let one : d ≡ e = cc in one) ∙ why.0 in
           rw is (record { holds = why.1; least = at_least 5 (early 5 (omega arith) (λ _. (hn n refl).0) (λ over. absurd (omega (arith, over)))) })
-      by (Ok n) (Ok c) (Err d) a r k t hn en hc ec ho eo ha ea hr er hk ek et same =
+      by (Ok n) (Ok c) (Err d) a r k t l hn en hc ec ho eo ha ea hr er hk ek ht et el same =
           let is : d ≡ e = cc in
           ops_refused e (hn n refl).0 (hc c refl) (rw is at (eo d refl))
-      by (Ok n) (Ok c) (Ok o) (Err d) r k t hn en hc ec ho eo ha ea hr er hk ek et same =
+      by (Ok n) (Ok c) (Ok o) (Err d) r k t l hn en hc ec ho eo ha ea hr er hk ek ht et el same =
           let why = ea d refl in
           let is : e ≡ fault.TooManyMessages = sym (let one : d ≡ e = cc in one) ∙ why.0 in
           rw is
           (record {
             holds = why.1;
             least = at_least 11 (late 11 (omega arith) (hn n refl).0 (hc c refl) (ho o refl)
-                (λ over. absurd (omega (arith, over))) (λ over. absurd (omega (arith, over))) (λ over. absurd (omega (arith, over))));
+                (λ over. absurd (omega (arith, over))) (λ over. absurd (omega (arith, over))) (λ over. absurd (omega (arith, over)))
+                (λ over. absurd (omega (arith, over))) (λ over. absurd (omega (arith, over))));
           })
-      by (Ok n) (Ok c) (Ok o) (Ok a) (Err d) k t hn en hc ec ho eo ha ea hr er hk ek et same =
+      by (Ok n) (Ok c) (Ok o) (Ok a) (Err d) k t l hn en hc ec ho eo ha ea hr er hk ek ht et el same =
           let why = er d refl in
           let is : e ≡ fault.Release = sym (let one : d ≡ e = cc in one) ∙ why.0 in
           rw is
           (record {
             holds = why.1;
             least = at_least 13 (late 13 (omega arith) (hn n refl).0 (hc c refl) (ho o refl) (λ _. ha a refl)
-                (λ over. absurd (omega (arith, over))) (λ over. absurd (omega (arith, over))));
+                (λ over. absurd (omega (arith, over))) (λ over. absurd (omega (arith, over))) (λ over. absurd (omega (arith, over)))
+                (λ over. absurd (omega (arith, over))));
           })
-      by (Ok n) (Ok c) (Ok o) (Ok a) (Ok r) (Err d) t hn en hc ec ho eo ha ea hr er hk ek et same =
+      by (Ok n) (Ok c) (Ok o) (Ok a) (Ok r) (Err d) t l hn en hc ec ho eo ha ea hr er hk ek ht et el same =
           let why = ek d refl in
           let is : e ≡ fault.Client = sym (let one : d ≡ e = cc in one) ∙ why.0 in
           rw is
           (record {
             holds = why.1;
             least = at_least 14 (late 14 (omega arith) (hn n refl).0 (hc c refl) (ho o refl) (λ _. ha a refl) (λ _. hr r refl)
-                (λ over. absurd (omega (arith, over))));
+                (λ over. absurd (omega (arith, over))) (λ over. absurd (omega (arith, over))) (λ over. absurd (omega (arith, over))));
           })
-      by (Ok n) (Ok c) (Ok o) (Ok a) (Ok r) (Ok k) (Err d) hn en hc ec ho eo ha ea hr er hk ek et same =
+      by (Ok n) (Ok c) (Ok o) (Ok a) (Ok r) (Ok k) (Err d) l hn en hc ec ho eo ha ea hr er hk ek ht et el same =
           let why = et d refl in
           let is : e ≡ fault.Think = sym (let one : d ≡ e = cc in one) ∙ why.0 in
           rw is
           (record {
             holds = why.1;
-            least = at_least 15 (late 15 (omega arith) (hn n refl).0 (hc c refl) (ho o refl) (λ _. ha a refl) (λ _. hr r refl) (λ _. hk k refl));
+            least = at_least 15 (late 15 (omega arith) (hn n refl).0 (hc c refl) (ho o refl) (λ _. ha a refl) (λ _. hr r refl) (λ _. hk k refl)
+                (λ over. absurd (omega (arith, over))) (λ over. absurd (omega (arith, over))));
           })
-      by (Ok n) (Ok c) (Ok o) (Ok a) (Ok r) (Ok k) (Ok t) hn en hc ec ho eo ha ea hr er hk ek et same = absurd (cc)
+      by (Ok n) (Ok c) (Ok o) (Ok a) (Ok r) (Ok k) (Ok t) (Err d) hn en hc ec ho eo ha ea hr er hk ek ht et el same =
+          let is : d ≡ e = cc in
+          list_refused e (rw is at (el d refl))
+          (λ m top lists. late m top (hn n refl).0 (hc c refl) (ho o refl) (λ _. ha a refl) (λ _. hr r refl) (λ _. hk k refl) (λ _. ht t refl) lists)
+      by (Ok n) (Ok c) (Ok o) (Ok a) (Ok r) (Ok k) (Ok t) (Ok l) hn en hc ec ho eo ha ea hr er hk ek ht et el same = absurd (cc)
 
 pub least_check_decides : (version : Version) (spaces : List Space) (place : Place) (columns : Columns) → LeastCheckDecides version spaces place columns
 least_check_decides version spaces place columns e h = columns-refused version spaces place columns e h

@@ -1,6 +1,6 @@
 -- A message is read from the record that spells it.
-use Rattle.std.proofs.Common.{◌≡◌, ◌≢◌, ℕ, ◌+◌, ◌<◌, ◌≤◌, ◌^◌, List, [], ◌∷◌, ◌++◌, length, map, get_or, true, false, Some, Result, Ok, Err, slice_get, refl, sym, ap, ◌∙◌, arith, inl, inr}
-use Rattle.std.specs.Prelude.{All, codes, unwrap_or, ◌==◌}
+use Rattle.std.proofs.Common.{◌≡◌, ◌≢◌, ℕ, ◌+◌, ◌-◌, ◌<◌, ◌≤◌, ◌^◌, List, [], ◌∷◌, ◌++◌, length, map, get_or, Bool, true, false, Some, Result, Ok, Err, slice_get, refl, sym, ap, ◌∙◌, arith, inl, inr}
+use Rattle.std.specs.Prelude.{All, codes, unwrap_or, ◌==◌, if◌then◌else◌}
 use Rattle.std.specs.Char.{is_ascii_digit}
 use Rattle.std.specs.Fmt.{decimal}
 use Rattle.std.specs.List.{flat_map, join_with_byte, list_all, position_or_len}
@@ -14,29 +14,32 @@ use Rattle.std.proofs.lemmas.List.Splits.{slice_split_at, slice_split_none}
 use Rattle.std.proofs.lemmas.List.Sums.{position_or_len_is}
 use Rattle.std.proofs.lemmas.Option.{slice_get-get_or, slice_get_past}
 use Rattle.std.proofs.lemmas.Slice.Eq.{bytes_eq-Decides}
+use Rattle.waff_model.specs.Awaits.{IsList}
 use Rattle.waff_model.specs.Cells.{LiesIn, cells_of, cells_of_op}
 use Rattle.waff_model.proofs.LayoutLemmas.{size_below}
 use Rattle.waff_model.specs.Layout.{Hierarchy, IsCell, IsLayout, IsSpace, Space, name_at, size_at, space_named}
 use Rattle.waff_model.specs.Messages.{IsMessage, sizes_of}
 use Rattle.waff_model.specs.Names.{is_name, is_name_byte}
 use Rattle.waff_model.specs.declared.cell.Cell.{Cell}
-use Rattle.waff_model.specs.Versions.{max_messages}
-use Rattle.waff_model.specs.declared.limits.TheConstants.{MAX_ALL_OPS}
+use Rattle.waff_model.specs.Versions.{has_after, has_clients, has_releases, max_messages}
+use Rattle.waff_model.specs.declared.awaits.Await.{Await}
+use Rattle.waff_model.specs.declared.limits.TheConstants.{MAX_ALL_OPS, MAX_AWAITED}
 use Rattle.waff_model.specs.declared.message.Message.{Message}
 use Rattle.waff_model.specs.declared.message.Version.{Version}
-use Rattle.waff_model.specs.declared.message.Version.TheVariants.{V1, V2, V3}
 use Rattle.waff_model.specs.declared.op.Op.{Op}
 use Rattle.waff_model.specs.declared.op.Op.TheVariants as op
-use Rattle.waff_model.proofs.TraceLemmas.{lies_in-sizes_of}
+use Rattle.waff_model.proofs.TraceLemmas.{lies_in-sizes_of, max_messages-most}
 use Rattle.waff_parse.specs.Fields.{Field}
 use Rattle.waff_parse.specs.Texts.{parts}
 use Rattle.waff_parse.proofs.WrittenRows.{all_if, digits_model, number_of-decimal}
-use Rattle.waff_read.specs.Laws.{IsClient, IsRelease, IsThink, Spells, SpelledIsRead}
-use Rattle.waff_read.specs.Messages.{Columns}
+use Rattle.waff_read.specs.Awaits.{await_of, await_of_parts}
+use Rattle.waff_read.specs.Laws.{IsAfter, IsClient, IsRelease, IsThink, SpellAwaits, Spells, SpelledIsRead}
+use Rattle.waff_read.specs.Messages.{Columns, only}
 use Rattle.waff_read.specs.Ops.{cell_of, op_of, op_of_verb, op_of_words, value_of}
 use Rattle.waff_read.specs.Pieces.{piece_of}
+use Rattle.waff_read.specs.Places.{most_awaited}
 use Rattle.waff_read.specs.Ranges.{range_of}
-use Rattle.waff_read.specs.Spellings.{HasSmallNumber, cell_spelled, columns_spelled, op_spelled, ops_spelled, record_of, words_of}
+use Rattle.waff_read.specs.Spellings.{HasSmallNumber, after_spelled, await_spelled, cell_spelled, columns_spelled, op_spelled, ops_spelled, record_of, words_of}
 use Rattle.waff_read.specs.declared.place.Place.{Place}
 use Rattle.waff_read.specs.declared.trace_fault.TraceFault.{TraceFault}
 use Rattle.waff_read.specs.declared.trace_fault.TraceFault.TheVariants as fault
@@ -110,6 +113,71 @@ All-two Q x y h k = All-cons Q x (y ∷ []) h (All-cons Q y [] k (All-nil Q))
 
 pub All-three : {A : Type 0} (Q : A → Type 0) (x y z : A) → Q x → Q y → Q z → All Q (x ∷ y ∷ z ∷ [])
 All-three Q x y z h k l = All-cons Q x (y ∷ z ∷ []) h (All-two Q y z k l)
+
+-- numbers of messages and gaps are small
+abbrev pub IsSmall : Await → Type 0
+IsSmall a = (a.message < 2 ^ 64) × (a.gap < 2 ^ 64)
+
+pub list_is_small : (n : ℕ) (list : List Await) → IsList n list → n < 2 ^ 64 → All IsSmall list
+list_is_small n list is small k d inside = (omega (arith, is.earlier k d inside, small), omega (arith, is.gaps k d inside))
+
+-- what holds of the bytes of names, of `+` and of the space holds of those of a list
+module _ (P : ℕ → Type 0) (names : (b : ℕ) → is_name_byte b ≡ true → P b) (joint : P 43) where
+  await_all : (a : Await) → IsSmall a → All P (await_spelled a)
+  await_all a small = by (a.gap == 0)
+    where
+      by : (b : Bool) → All P (if b then decimal a.message else join_with_byte 43 (decimal a.message ∷ decimal a.gap ∷ []))
+      by true = decimal_all P names a.message small.0
+      by false =
+          All-join P 43 (decimal a.message) (decimal a.gap ∷ []) joint (decimal_all P names a.message small.0)
+          (All-cons (All P) (decimal a.gap) [] (decimal_all P names a.gap small.1) (All-nil (All P)))
+
+  pub awaits_all : (list : List Await) → All IsSmall list → All (All P) (map await_spelled list)
+  awaits_all [] small = All-nil (All P)
+  awaits_all (a ∷ list) small =
+      All-cons (All P) (await_spelled a) (map await_spelled list) (await_all a (All-head IsSmall a list small)) (awaits_all list (All-tail IsSmall a list small))
+
+-- a message that is awaited is read from its piece
+await_is_read : (a : Await) → IsSmall a → await_of (await_spelled a) ≡ Ok a
+unfolding await_of
+await_is_read a small = by (a.gap == 0) refl
+  where
+    free : (n : ℕ) → n < 2 ^ 64 → Free 43 (decimal n)
+    free n small = decimal_all (IsOther 43) (names_other 43 refl) n small
+
+    by : (b : Bool) → (a.gap == 0) ≡ b → await_of_parts (parts 43 (if b then decimal a.message else join_with_byte 43 (decimal a.message ∷ decimal a.gap ∷ []))) ≡ Ok a
+    by true none =
+        let gap : a.gap ≡ 0 = eqb-true a.gap 0 none in
+        rw (parts-join 43 (decimal a.message) [] (free a.message small.0) (All-nil (Free 43)), number_of-decimal a.message small.0, ← gap) refl
+    by false some =
+        rw (
+          parts-join 43 (decimal a.message) (decimal a.gap ∷ []) (free a.message small.0) (All-cons (Free 43) (decimal a.gap) [] (free a.gap small.1) (All-nil (Free 43))),
+          number_of-decimal a.message small.0,
+          number_of-decimal a.gap small.1,
+        ) refl
+
+awaits_are_read : (list : List Await) → All IsSmall list → map await_of (map await_spelled list) ≡ map Ok list
+awaits_are_read [] small = refl
+awaits_are_read (a ∷ list) small =
+    ap (λ (r : Result Await TraceFault). r ∷ map await_of (map await_spelled list)) (await_is_read a (All-head IsSmall a list small))
+    ∙ ap (λ (l : List (Result Await TraceFault)). Ok a ∷ l) (awaits_are_read list (All-tail IsSmall a list small))
+
+empty_await : await_of [] ≡ Err fault.After
+unfolding await_of
+empty_await = refl
+
+-- pieces that spell messages are no empty text
+pieces_spell : (text : Field) (a : Await) (list : List Await) → map await_of (parts 32 text) ≡ map Ok (a ∷ list) → SpellAwaits text (a ∷ list)
+pieces_spell [] a list each = let read = rw empty_await at each in absurd (cc)
+pieces_spell (b ∷ bs) a list each = each
+
+after_is_spelled : (n : ℕ) (list : List Await) → IsList n list → n < 2 ^ 64 → SpellAwaits (after_spelled list) list
+after_is_spelled n [] is small = refl
+after_is_spelled n (a ∷ list) is small =
+    let each = list_is_small n (a ∷ list) is small in
+    pieces_spell (after_spelled (a ∷ list)) a list
+    (ap (map await_of) (parts-joined 32 (map await_spelled (a ∷ list)) (omega arith) (awaits_all (IsOther 32) (names_other 32 refl) refl (a ∷ list) each))
+    ∙ awaits_are_read (a ∷ list) each)
 
 abbrev no_space : Space
 no_space = record { name = []; size = 0; unit = 0; to = [] }
@@ -283,9 +351,11 @@ module _ (layout : Hierarchy) (is : IsLayout layout) where
 
   empty_fault : (version : Version) → piece_of version layout.spaces [] ≡ Err fault.Op
   unfolding piece_of
-  empty_fault V1 = rw empty_piece refl
-  empty_fault V2 = rw empty_piece refl
-  empty_fault V3 = rw (empty_piece, empty_range) refl
+  empty_fault version = rw (empty_piece, empty_range) (by (has_clients version))
+    where
+      by : (b : Bool) → ◌≡◌ {A = Result (List Op) TraceFault} (if b then Err fault.Op else Err fault.Op) (Err fault.Op)
+      by true = refl
+      by false = refl
 
   filled_text : (version : Version) (lists : List (List Op)) (text : Field) → map (piece_of version layout.spaces) (parts 59 text) ≡ map Ok lists → text ≢ []
   filled_text version [] text each none = let read = rw none at each in absurd (cc)
@@ -296,8 +366,9 @@ module _ (layout : Hierarchy) (is : IsLayout layout) where
       → place.at ≤ max_messages version + 1 → place.ops + length message.ops ≤ MAX_ALL_OPS
       → columns.name ≡ message.name → columns.cost ≡ decimal message.cost → columns.ops ≡ ops_spelled layout.spaces message.ops
       → IsRelease columns.release message.release → IsClient columns.client message.client → IsThink columns.think message.think
+      → IsAfter (place.at - 1) columns.after message.after → length message.after ≤ most_awaited place
       → Spells version layout.spaces place columns message
-  spells version place message columns within small counted room is_name is_cost are_ops released named_client thought =
+  spells version place message columns within small counted room is_name is_cost are_ops released named_client thought listed few_awaited =
       let read : map (piece_of version layout.spaces) (parts 59 (ops_spelled layout.spaces message.ops)) ≡ map Ok (map lone message.ops) =
       ap (map (piece_of version layout.spaces)) (ops_parts message.ops within.some_ops within.cells small)
       ∙ each_is_read version message.ops within.cells small in
@@ -315,25 +386,38 @@ module _ (layout : Hierarchy) (is : IsLayout layout) where
         release = released;
         client = named_client;
         think = thought;
+        after = listed;
+        within_after = few_awaited;
       }
 
 columns_spell : (layout : Hierarchy) (is : IsLayout layout) (version : Version) (place : Place) (message : Message) → IsMessage version (sizes_of layout.spaces) message
     → All HasSmallNumber message.ops → place.at ≤ max_messages version + 1 → place.ops + length message.ops ≤ MAX_ALL_OPS
+    → IsList (place.at - 1) message.after → place.awaited + length message.after ≤ MAX_AWAITED
     → Spells version layout.spaces place (columns_spelled version layout.spaces message) message
-columns_spell layout is V1 place message within small counted room =
-    spells layout is V1 place message (columns_spelled V1 layout.spaces message) within small counted room refl refl refl
-    (within.no_release refl) (within.no_client (λ same. cc same)) (within.no_think (λ same. cc same))
-columns_spell layout is V2 place message within small counted room =
-    let release : message.release < 2 ^ 64 = omega (arith, within.within_release) in
-    spells layout is V2 place message (columns_spelled V2 layout.spaces message) within small counted room refl refl refl
-    (number_of-decimal message.release release, within.within_release) (within.no_client (λ same. cc same)) (within.no_think (λ same. cc same))
-columns_spell layout is V3 place message within small counted room =
-    let release : message.release < 2 ^ 64 = omega (arith, within.within_release) in
-    let think : message.think < 2 ^ 64 = omega (arith, within.within_think) in
-    spells layout is V3 place message (columns_spelled V3 layout.spaces message) within small counted room refl refl refl
-    (number_of-decimal message.release release, within.within_release) (within.named_client, refl) (number_of-decimal message.think think, within.within_think)
+columns_spell layout is version place message within small counted room list room_awaited =
+    spells layout is version place message (columns_spelled version layout.spaces message) within small counted room refl refl refl
+    (released (has_releases version) refl) (named_client (has_clients version) refl) (thought (has_clients version) refl) (listed (has_after version) refl) (omega (arith, room_awaited))
+  where
+    released : (b : Bool) → has_releases version ≡ b → IsRelease (only b (decimal message.release)) message.release
+    released true has = (number_of-decimal message.release (omega (arith, within.within_release)), within.within_release)
+    released false none = within.no_release none
+
+    named_client : (b : Bool) → has_clients version ≡ b → IsClient (only b message.client) message.client
+    named_client true has = (within.named_client, refl)
+    named_client false none = within.no_client none
+
+    thought : (b : Bool) → has_clients version ≡ b → IsThink (only b (decimal message.think)) message.think
+    thought true has = (number_of-decimal message.think (omega (arith, within.within_think)), within.within_think)
+    thought false none = within.no_think none
+
+    listed : (b : Bool) → has_after version ≡ b → IsAfter (place.at - 1) (only b (after_spelled message.after)) message.after
+    listed true has = (after_is_spelled (place.at - 1) message.after list (omega (arith, counted, max_messages-most version)), list)
+    listed false none = within.no_list none
 
 pub spelled_is_read : (layout : Hierarchy) (version : Version) (place : Place) (message : Message) → SpelledIsRead layout version place message
-spelled_is_read layout version place message is within small counted room =
-    (record_is_exact version layout.spaces place (record_of version layout.spaces message) message).1
-    (columns_spelled version layout.spaces message, columns_there version message.name (decimal message.cost) (decimal message.release) message.client (decimal message.think) (ops_spelled layout.spaces message.ops), columns_spell layout is version place message within small counted room)
+spelled_is_read layout version place message is within small counted room list room_awaited =
+    (record_is_exact version layout.spaces place (record_of version layout.spaces message) message).1 (
+      columns_spelled version layout.spaces message,
+      columns_there version message.name (decimal message.cost) (decimal message.release) message.client (decimal message.think) (after_spelled message.after) (ops_spelled layout.spaces message.ops),
+      columns_spell layout is version place message within small counted room list room_awaited,
+    )

@@ -1,13 +1,15 @@
 -- The messages of a trace, one record after the other.
-use Rattle.std.proofs.Common.{◌≡◌, ◌+◌, ◌≤◌, List, [], ◌∷◌, ◌++◌, length, Bool, true, false, Some, Result, Ok, Err, refl, sym, ap, ◌∙◌, append_assoc, arith}
+use Rattle.std.proofs.Common.{◌≡◌, ℕ, zero, suc, ◌+◌, ◌-◌, ◌≤◌, List, [], ◌∷◌, ◌++◌, length, Bool, true, false, Some, Result, Ok, Err, refl, sym, ap, subst, ◌∙◌, append_assoc, arith}
 use Rattle.std.specs.Prelude.{All, IfOk, drop, if◌then◌else◌}
 use Rattle.std.proofs.lemmas.List.{append-nil}
 use Rattle.std.proofs.lemmas.List.Elements.{All-cons, All-nil}
 use Rattle.std.proofs.lemmas.List.Sums.{sum_by-append}
+use Rattle.std.proofs.lemmas.Option.{slice_get_within}
+use Rattle.waff_model.specs.Awaits.{AreLists, IsList, awaited_in}
 use Rattle.waff_model.specs.Layout.{Space}
 use Rattle.waff_model.specs.Messages.{Arrivals, IsMessage, ops_in, sizes_of}
 use Rattle.waff_model.specs.Versions.{max_messages}
-use Rattle.waff_model.specs.declared.limits.TheConstants.{MAX_ALL_OPS}
+use Rattle.waff_model.specs.declared.limits.TheConstants.{MAX_ALL_OPS, MAX_AWAITED}
 use Rattle.waff_model.specs.declared.message.Message.{Message}
 use Rattle.waff_model.specs.declared.message.Version.{Version}
 use Rattle.waff_parse.specs.Refusals.{◌>>=◌, told}
@@ -142,6 +144,26 @@ ops_in-cons message more =
     let one : ops_in (message ∷ []) ≡ 0 + length message.ops = refl in
     omega (arith, both, one)
 
+-- the messages that a message and more await by their lists
+pub awaited_in-cons : (message : Message) (more : List Message) → awaited_in (message ∷ more) ≡ length message.after + awaited_in more
+awaited_in-cons message more =
+    let both = sum_by-append (λ (m : Message). length m.after) (message ∷ []) more in
+    let one : awaited_in (message ∷ []) ≡ 0 + length message.after = refl in
+    omega (arith, both, one)
+
+-- the list of a message, and those of more
+pub lists-head : (first : ℕ) (message : Message) (more : List Message) → AreLists first (message ∷ more) → IsList first message.after
+lists-head first message more lists = subst (λ (n : ℕ). IsList n message.after) (omega arith) (lists 0 message refl)
+
+pub lists-tail : (first : ℕ) (message : Message) (more : List Message) → AreLists first (message ∷ more) → AreLists (first + 1) more
+lists-tail first message more lists k other at = subst (λ (n : ℕ). IsList n other.after) (omega arith) (lists (suc k) other at)
+
+lists-cons : (first : ℕ) (message : Message) (more : List Message) → IsList first message.after → AreLists (first + 1) more → AreLists first (message ∷ more)
+lists-cons first message more list lists zero other at =
+    let same : message ≡ other = cc in
+    subst (λ (m : Message). IsList (first + 0) m.after) same (subst (λ (n : ℕ). IsList n message.after) (omega arith) list)
+lists-cons first message more list lists (suc k) other at = subst (λ (n : ℕ). IsList n other.after) (omega arith) (lists k other at)
+
 -- what is known of messages, by their first record and the others
 module _ (version : Version) (spaces : List Space) where
   -- messages of a record and more are that of the record and theirs behind it
@@ -198,6 +220,29 @@ module _ (version : Version) (spaces : List Space) where
       let fits = fits-message version spaces place row p.first p.read in
       let few = ops-few (next_place place p.first) rows p.others p.more (omega (arith, fits.room)) in
       rw (← p.is) (omega (arith, few, ops_in-cons p.first p.others))
+
+  -- their lists name earlier ones
+  pub lists-read : (place : Place) (rows : List Record) (messages : List Message)
+      → messages_at version spaces place rows ≡ Ok messages → 1 ≤ place.at → AreLists (place.at - 1) messages
+  lists-read place [] messages h some =
+      rw (← (none_read place messages h)) (λ k message at. absurd (omega (arith, slice_get_within [] k message at)))
+  lists-read place (row ∷ rows) messages h some =
+      let p = parts_of place row rows messages h in
+      let fits = fits-message version spaces place row p.first p.read in
+      let more = lists-read (next_place place p.first) rows p.others p.more (omega arith) in
+      rw (← p.is)
+      (lists-cons (place.at - 1) p.first p.others fits.after.is_list (subst (λ (n : ℕ). AreLists n p.others) (omega (arith, some)) more))
+
+  -- and have not too many messages
+  pub awaited-few : (place : Place) (rows : List Record) (messages : List Message)
+      → messages_at version spaces place rows ≡ Ok messages → place.awaited ≤ MAX_AWAITED → place.awaited + awaited_in messages ≤ MAX_AWAITED
+  awaited-few place [] messages h low = rw (← (none_read place messages h)) (omega (arith, low))
+  awaited-few place (row ∷ rows) messages h low =
+      let p = parts_of place row rows messages h in
+      let fits = fits-message version spaces place row p.first p.read in
+      let here = fits.after.few in
+      let few = awaited-few (next_place place p.first) rows p.others p.more (omega (arith, here, low)) in
+      rw (← p.is) (omega (arith, few, awaited_in-cons p.first p.others))
 
 -- the place behind messages
 pub behind-push : (place : Place) (messages : List Message) (message : Message) → behind place (messages ++ message ∷ []) ≡ next_place (behind place messages) message

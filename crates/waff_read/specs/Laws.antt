@@ -1,9 +1,11 @@
 -- What the readers accept, in the words of the formats.
-use Rattle.std.specs.Prelude.{◌≡◌, ◌≢◌, ◌↔◌, ◌⊎◌, ℕ, ◌+◌, ◌<◌, ◌≤◌, List, [], length, map, take}
+use Rattle.std.specs.Prelude.{◌≡◌, ◌≢◌, ◌↔◌, ◌⊎◌, ℕ, ◌+◌, ◌-◌, ◌<◌, ◌≤◌, List, [], ◌∷◌, length, map}
+use Rattle.std.specs.Prelude.{take}
 use Rattle.std.specs.Prelude.{drop, false, All, Contains, Option, Some, None, Ok, Err, IsTrue}
 use Rattle.std.specs.Prelude.{slice_get, codes}
 use Rattle.std.specs.List.{flat_map}
 use Rattle.toml.specs.Data.{Data}
+use Rattle.waff_model.specs.Awaits.{IsList}
 use Rattle.waff_model.specs.Layout.{Space, Hierarchy, IsLayout}
 use Rattle.waff_model.specs.Messages.{Arrivals, IsMessage, IsTrace, no_client, sizes_of}
 use Rattle.waff_model.specs.Names.{is_name}
@@ -11,24 +13,25 @@ use Rattle.waff_model.specs.Tree.{Node, parent_of}
 use Rattle.waff_model.specs.declared.kind.Kind.{Kind}
 use Rattle.waff_model.specs.declared.kind.Kind.TheVariants.{Classical}
 use Rattle.waff_model.specs.Versions as versions
-use Rattle.waff_model.specs.Versions.{max_messages}
-use Rattle.waff_model.specs.declared.limits.TheConstants.{MAX_ALL_OPS, MAX_COST, MAX_RELEASE}
-use Rattle.waff_model.specs.declared.limits.TheConstants.{MAX_THINK}
+use Rattle.waff_model.specs.Versions.{has_clients, max_messages}
+use Rattle.waff_model.specs.declared.awaits.Await.{Await}
+use Rattle.waff_model.specs.declared.limits.TheConstants.{MAX_ALL_OPS, MAX_AWAITED, MAX_COST}
+use Rattle.waff_model.specs.declared.limits.TheConstants.{MAX_RELEASE, MAX_THINK}
 use Rattle.waff_model.specs.declared.message.Message.{Message}
 use Rattle.waff_model.specs.declared.message.Version.{Version}
-use Rattle.waff_model.specs.declared.message.Version.TheVariants.{V3}
 use Rattle.waff_model.specs.declared.op.Op.{Op}
 use Rattle.waff_parse.specs.Fields.{Field}
 use Rattle.waff_parse.specs.Refusals.{one}
 use Rattle.waff_parse.specs.Rows.{Record, records_of}
-use Rattle.waff_parse.specs.Texts.{number_of, number_within, parts, semicolon}
+use Rattle.waff_parse.specs.Texts.{blank, number_of, number_within, parts, semicolon}
 use Rattle.waff_read.specs.Affinities.{tree_of}
+use Rattle.waff_read.specs.Awaits.{await_of}
 use Rattle.waff_read.specs.Documents.{document_of, rows_at}
 use Rattle.waff_read.specs.Hierarchies.{hierarchy_of, kind_of, kind_refusal, layout_at}
 use Rattle.waff_read.specs.Messages.{Columns, columns_of, message_of, message_of_columns}
 use Rattle.waff_read.specs.Ops.{op_of}
 use Rattle.waff_read.specs.Pieces.{piece_of}
-use Rattle.waff_read.specs.Places.{behind, first_place, most_ops}
+use Rattle.waff_read.specs.Places.{behind, first_place, most_awaited, most_ops}
 use Rattle.waff_read.specs.Shapes.{shape_refusal}
 use Rattle.waff_read.specs.Spellings.{HasSmallNumber, record_of, text_of}
 use Rattle.waff_read.specs.TraceFaults.{number}
@@ -55,6 +58,17 @@ abbrev pub IsThink : Option Field → ℕ → Type 0
 IsThink None think = think ≡ 0
 IsThink (Some text) think = (number_of text ≡ Some think) × (think ≤ MAX_THINK)
 
+-- nothing, or pieces joined by one space, spell these messages, each with its gap
+abbrev pub SpellAwaits : Field → List Await → Type 0
+SpellAwaits [] list = list ≡ []
+SpellAwaits (b ∷ bs) list = map await_of (parts blank (b ∷ bs)) ≡ map Ok list
+
+-- what message n awaits: nothing where there is no field for it, else the messages that the field
+-- spells, which are earlier ones by rising numbers, with gaps within the limit
+abbrev pub IsAfter : ℕ → Option Field → List Await → Type 0
+IsAfter n None list = list ≡ []
+IsAfter n (Some text) list = SpellAwaits text list × IsList n list
+
 -- the pieces between `;` stand for these operations, one behind the other
 abbrev pub SpellOps : Version → List Space → Field → List Op → Type 0
 SpellOps version spaces text ops =
@@ -77,6 +91,8 @@ pub record Spells (version : Version) (spaces : List Space) (place : Place)
   pub release : IsRelease columns.release message.release
   pub client : IsClient columns.client message.client
   pub think : IsThink columns.think message.think
+  pub after : IsAfter (place.at - 1) columns.after message.after
+  pub within_after : length message.after ≤ most_awaited place
 
 -- a record is read as a message exactly where it has the fields of its version and they spell it
 abbrev pub RecordIsExact : Version → List Space → Place → Record → Type 0
@@ -113,6 +129,12 @@ HasTraceFault version spaces place columns fault.Client =
     (text : Field) × (columns.client ≡ Some text) × (is_name text ≡ false)
 HasTraceFault version spaces place columns fault.Think =
     (text : Field) × (columns.think ≡ Some text) × (number_within 0 MAX_THINK text ≡ None)
+HasTraceFault version spaces place columns fault.After =
+    (text : Field) × (columns.after ≡ Some text)
+    × ((list : List Await) → SpellAwaits text list → ¬ IsList (place.at - 1) list)
+HasTraceFault version spaces place columns fault.TooManyAfter =
+    (list : List Await) × IsAfter (place.at - 1) columns.after list
+    × (most_awaited place < length list)
 
 -- of the checks that hold of the fields this one has the least number
 pub record IsLeastCheck (version : Version) (spaces : List Space) (place : Place)
@@ -130,7 +152,7 @@ LeastCheckDecides version spaces place columns =
 -- before the third version each piece stands for one operation
 abbrev pub PiecesAreSingle : Version → List Space → List ℕ → Type 0
 PiecesAreSingle version spaces piece =
-    version ≢ V3 → piece_of version spaces piece ≡ one (op_of spaces piece)
+    has_clients version ≡ false → piece_of version spaces piece ≡ one (op_of spaces piece)
 
 -- a message within the limits, whose cells lie in the spaces of a layout, is read from the record
 -- that spells it
@@ -138,7 +160,8 @@ abbrev pub SpelledIsRead : Hierarchy → Version → Place → Message → Type 
 SpelledIsRead layout version place message =
     IsLayout layout → IsMessage version (sizes_of layout.spaces) message
     → All HasSmallNumber message.ops → place.at ≤ max_messages version + 1
-    → place.ops + length message.ops ≤ MAX_ALL_OPS
+    → place.ops + length message.ops ≤ MAX_ALL_OPS → IsList (place.at - 1) message.after
+    → place.awaited + length message.after ≤ MAX_AWAITED
     → message_of version layout.spaces place (record_of version layout.spaces message) ≡ Ok message
 
 -- a trace within the limits, of a version up to the newest, whose cells lie in the spaces of a

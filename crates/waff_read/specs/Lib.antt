@@ -10,6 +10,7 @@ pub mod Ops
 pub mod Ranges
 pub mod Pieces
 pub mod Places
+pub mod Awaits
 pub mod Messages
 pub mod Traces
 pub mod Plain

@@ -7,15 +7,16 @@ use Rattle.waff_model.specs.Layout.{Space}
 use Rattle.waff_model.specs.Messages.{no_client}
 use Rattle.waff_model.specs.Names.{is_name}
 use Rattle.waff_model.specs.Versions as versions
-use Rattle.waff_model.specs.Versions.{has_clients, has_releases}
+use Rattle.waff_model.specs.Versions.{has_after, has_clients, has_releases}
 use Rattle.waff_model.specs.declared.limits.TheConstants.{MAX_COST, MAX_RELEASE, MAX_THINK}
 use Rattle.waff_model.specs.declared.message.Message.{Message}
 use Rattle.waff_model.specs.declared.message.Version.{Version}
-use Rattle.waff_model.specs.declared.message.Version.TheVariants.{V1, V2, V3}
+use Rattle.waff_model.specs.declared.message.Version.TheVariants.{V1, V2, V3, V4}
 use Rattle.waff_parse.specs.Fields.{Field, field_of}
 use Rattle.waff_parse.specs.Refusals.{◌>>=◌}
 use Rattle.waff_parse.specs.Rows.{Record}
 use Rattle.waff_parse.specs.Texts.{number_within}
+use Rattle.waff_read.specs.Awaits.{after_of}
 use Rattle.waff_read.specs.Pieces.{ops_of}
 use Rattle.waff_read.specs.Places.{most_ops}
 use Rattle.waff_read.specs.declared.place.Place.{Place}
@@ -29,6 +30,7 @@ pub record Columns : Type 0 where
   pub release : Option Field
   pub client : Option Field
   pub think : Option Field
+  pub after : Option Field
   pub ops : Field
 
 -- the field of a column that is there
@@ -36,13 +38,15 @@ abbrev pub only : Bool → Field → Option Field
 only has text = if has then Some text else None
 
 -- the columns of a version, with a field for each that it may have
-abbrev pub columns_with : Version → Field → Field → Field → Field → Field → Field → Columns
-columns_with version name cost release client think ops = record {
+abbrev pub columns_with : Version
+    → Field → Field → Field → Field → Field → Field → Field → Columns
+columns_with version name cost release client think after ops = record {
   name = name;
   cost = cost;
   release = only (has_releases version) release;
   client = only (has_clients version) client;
   think = only (has_clients version) think;
+  after = only (has_after version) after;
   ops = ops;
 }
 
@@ -55,18 +59,20 @@ there (Some text) = text ∷ []
 abbrev pub row_of : Columns → Record
 row_of columns = columns.name
     ∷ columns.cost
-    ∷ there columns.release ++ (there columns.client ++ (there columns.think ++ columns.ops ∷ []))
+    ∷ there columns.release ++ (there columns.client ++ (there columns.think
+    ++ (there columns.after ++ columns.ops ∷ [])))
 
 -- the header of a trace
 abbrev pub header_row : Version → Record
 header_row version = row_of (columns_with version (codes "message") (codes "cost") (codes "release")
-    (codes "client") (codes "think") (codes "ops"))
+    (codes "client") (codes "think") (codes "after") (codes "ops"))
 
 -- the fields of a record that has as many as the header of its version, the operations in the last
 abbrev pub columns_of : Version → Record → Option Columns
 columns_of version row =
     if length row == length (header_row version) then Some (columns_with version (field_of row 0)
-    (field_of row 1) (field_of row 2) (field_of row 3) (field_of row 4) (field_of row (length row - 1)))
+    (field_of row 1) (field_of row 2) (field_of row 3) (field_of row 4) (field_of row 5)
+    (field_of row (length row - 1)))
     else None
 
 -- the field of a column that is there is its title
@@ -79,7 +85,8 @@ abbrev pub are_titles : Columns → Bool
 are_titles columns =
     bytes_eq columns.name (codes "message") && (bytes_eq columns.cost (codes "cost")
     && (is_title (codes "release") columns.release && (is_title (codes "client") columns.client
-    && (is_title (codes "think") columns.think && bytes_eq columns.ops (codes "ops")))))
+    && (is_title (codes "think") columns.think && (is_title (codes "after") columns.after
+    && bytes_eq columns.ops (codes "ops"))))))
 
 -- a record is the header of a version
 abbrev pub is_header : Option Columns → Bool
@@ -92,6 +99,7 @@ told_version row =
     if is_header (columns_of V1 row) then Ok V1
     else if is_header (columns_of V2 row) then Ok V2
     else if is_header (columns_of V3 row) then Ok V3
+    else if is_header (columns_of V4 row) then Ok V4
     else Err fault.Header
 
 -- a version up to the newest that is known
@@ -143,12 +151,14 @@ message_of_columns version spaces place columns = do
   release ← release_of columns.release
   client ← client_of columns.client
   think ← think_of columns.think
+  after ← after_of place columns.after
   Ok (record {
     name = name;
     cost = cost;
     release = release;
     client = client;
     think = think;
+    after = after;
     ops = ops;
   })
 

@@ -3,8 +3,8 @@ use Rattle.std.specs.Prelude.{ℕ, ◌+◌, ◌==◌, List, length, take, nat_lt
 use Rattle.std.specs.Prelude.{Some, None, Result, Ok, Err}
 use Rattle.std.specs.List.{flat_map}
 use Rattle.waff_model.specs.Layout.{Space}
+use Rattle.waff_model.specs.Versions.{has_clients}
 use Rattle.waff_model.specs.declared.message.Version.{Version}
-use Rattle.waff_model.specs.declared.message.Version.TheVariants.{V1, V2, V3}
 use Rattle.waff_model.specs.declared.op.Op.{Op}
 use Rattle.waff_parse.specs.Refusals.{◌>>=◌, least, one}
 use Rattle.waff_parse.specs.Texts.{parts, semicolon}
@@ -22,11 +22,12 @@ or_range range (Ok list) = Ok list
 or_range range (Err fault.Op) = range
 or_range range (Err e) = Err e
 
--- the operations for which a piece stands: one, or in the third version those of a range
+-- the operations for which a piece stands: one, or from the third version on those of a range
 unfoldable pub piece_of : Version → List Space → List ℕ → Result (List Op) TraceFault
-piece_of V1 spaces piece = one (op_of spaces piece)
-piece_of V2 spaces piece = one (op_of spaces piece)
-piece_of V3 spaces piece = or_range (ops_of_range (range_of spaces piece)) (one (op_of spaces piece))
+piece_of version spaces piece =
+    if has_clients version then or_range (ops_of_range (range_of spaces piece))
+    (one (op_of spaces piece))
+    else one (op_of spaces piece)
 
 -- lists that are read, one behind the other
 abbrev pub joined : Result (List (List Op)) TraceFault → Result (List Op) TraceFault

@@ -1,19 +1,22 @@
 -- The places of the records of messages.
 use Rattle.std.specs.Prelude.{ℕ, ◌+◌, ◌-◌, List, [], ◌∷◌, length, nat_le, if◌then◌else◌}
 use Rattle.waff_model.specs.Versions.{max_ops}
-use Rattle.waff_model.specs.declared.limits.TheConstants.{MAX_ALL_OPS}
+use Rattle.waff_model.specs.declared.limits.TheConstants.{MAX_ALL_OPS, MAX_AWAITED}
 use Rattle.waff_model.specs.declared.message.Message.{Message}
 use Rattle.waff_model.specs.declared.message.Version.{Version}
 use Rattle.waff_read.specs.declared.place.Place.{Place}
 
--- the place behind the header: record 2, and no operation before it
+-- the place behind the header: record 2, and before it no operation and no message that is awaited
 abbrev pub first_place : Place
-first_place = record { at = 2; ops = 0 }
+first_place = record { at = 2; ops = 0; awaited = 0 }
 
 -- the place behind the record of a message
 abbrev pub next_place : Place → Message → Place
-next_place place message =
-    record { at = place.at + 1; ops = place.ops + length message.ops }
+next_place place message = record {
+  at = place.at + 1;
+  ops = place.ops + length message.ops;
+  awaited = place.awaited + length message.after;
+}
 
 -- the place behind the records of messages
 unfoldable pub behind : Place → List Message → Place
@@ -27,3 +30,7 @@ lesser a b = if nat_le a b then a else b
 -- how many operations a message may have, so that there are not too many of all messages
 abbrev pub most_ops : Version → Place → ℕ
 most_ops version place = lesser (max_ops version) (MAX_ALL_OPS - place.ops)
+
+-- how many messages a message may await, so that there are not too many in all lists
+abbrev pub most_awaited : Place → ℕ
+most_awaited place = MAX_AWAITED - place.awaited

@@ -1,10 +1,12 @@
 -- Messages as a trace spells them.
-use Rattle.std.specs.Prelude.{List, ℕ, ◌^◌, ◌<◌, [], ◌∷◌, map, unwrap_or, codes}
+use Rattle.std.specs.Prelude.{List, ℕ, ◌^◌, ◌<◌, ◌==◌, [], ◌∷◌, map, unwrap_or, codes}
+use Rattle.std.specs.Prelude.{if◌then◌else◌}
 use Rattle.std.specs.Fmt.{decimal}
 use Rattle.std.specs.List.{flat_map, join_with_byte}
 use Rattle.csv.specs.Writing.{default_writer, row_text}
 use Rattle.waff_model.specs.Layout.{Space, name_at}
 use Rattle.waff_model.specs.Messages.{Arrivals}
+use Rattle.waff_model.specs.declared.awaits.Await.{Await}
 use Rattle.waff_model.specs.declared.cell.Cell.{Cell}
 use Rattle.waff_model.specs.declared.message.Message.{Message}
 use Rattle.waff_model.specs.declared.message.Version.{Version}
@@ -12,6 +14,7 @@ use Rattle.waff_model.specs.declared.op.Op.{Op}
 use Rattle.waff_model.specs.declared.op.Op.TheVariants as op
 use Rattle.waff_parse.specs.Rows.{Record}
 use Rattle.waff_parse.specs.Texts.{blank, colon, semicolon}
+use Rattle.waff_read.specs.Awaits.{plus}
 use Rattle.waff_read.specs.Messages.{Columns, columns_with, header_row, row_of}
 
 -- a cell: the name of its space, `:` and its index
@@ -37,14 +40,24 @@ op_spelled spaces o = join_with_byte blank (words_of spaces o)
 abbrev pub ops_spelled : List Space → List Op → List ℕ
 ops_spelled spaces list = join_with_byte semicolon (map (op_spelled spaces) list)
 
+-- a message that is awaited: its number, and where there is a gap `+` and the gap
+abbrev pub await_spelled : Await → List ℕ
+await_spelled a =
+    if a.gap == 0 then decimal a.message
+    else join_with_byte plus (decimal a.message ∷ decimal a.gap ∷ [])
+
+-- a list: its messages joined by one space
+abbrev pub after_spelled : List Await → List ℕ
+after_spelled list = join_with_byte blank (map await_spelled list)
+
 -- the fields of the record of a message
 abbrev pub columns_spelled : Version → List Space → Message → Columns
 columns_spelled version spaces message = columns_with version message.name (decimal message.cost)
     (decimal message.release) message.client (decimal message.think)
-    (ops_spelled spaces message.ops)
+    (after_spelled message.after) (ops_spelled spaces message.ops)
 
--- the record of a message: its name, its cost, from the second version on its release, in the third
--- its client and its think time, and its operations
+-- the record of a message: its name, its cost, from the second version on its release, from the
+-- third on its client and its think time, in the fourth its list, and its operations
 abbrev pub record_of : Version → List Space → Message → Record
 record_of version spaces message = row_of (columns_spelled version spaces message)
 

@@ -21,6 +21,8 @@ number fault.TooManyMessages = 11
 number fault.Release = 13
 number fault.Client = 14
 number fault.Think = 15
+number fault.After = 16
+number fault.TooManyAfter = 17
 
 -- the error that tells a fault and its record
 abbrev pub at_record : ℕ → TraceFault → TraceError
@@ -38,3 +40,5 @@ at_record at fault.TooManyMessages = error.TooManyMessages at
 at_record at fault.Release = error.Release at
 at_record at fault.Client = error.Client at
 at_record at fault.Think = error.Think at
+at_record at fault.After = error.After at
+at_record at fault.TooManyAfter = error.TooManyAfter at

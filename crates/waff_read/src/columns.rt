@@ -19,6 +19,7 @@ pub(crate) struct Columns<'a> {
     pub(crate) release: Option<&'a str>,
     pub(crate) client: Option<&'a str>,
     pub(crate) think: Option<&'a str>,
+    pub(crate) after: Option<&'a str>,
     pub(crate) ops: &'a str,
 }
 
@@ -34,6 +35,7 @@ impl<'a> Model for Columns<'a> {
       release = option_map (λ s. s.now) c.release;
       client = option_map (λ s. s.now) c.client;
       think = option_map (λ s. s.now) c.think;
+      after = option_map (λ s. s.now) c.after;
       ops = c.ops.now;
     } };
 }
@@ -46,6 +48,7 @@ fn column_count(version: Version) -> usize
         Version::V1 => 3,
         Version::V2 => 4,
         Version::V3 => 6,
+        Version::V4 => 7,
     }
 }
 
@@ -71,6 +74,7 @@ pub(crate) fn read_columns(version: Version, row: &StringRecord) -> Option<Colum
         release: field_if(version.has_releases(), row, 2),
         client: field_if(version.has_clients(), row, 3),
         think: field_if(version.has_clients(), row, 4),
+        after: field_if(version.has_after(), row, 5),
         ops: field(row, count - 1),
     })
 }
@@ -94,6 +98,7 @@ fn are_titles(columns: &Columns<'_>) -> bool
         && is_title("release", columns.release)
         && is_title("client", columns.client)
         && is_title("think", columns.think)
+        && is_title("after", columns.after)
         && columns.ops == "ops"
 }
 
@@ -119,6 +124,9 @@ fn told_version(row: &StringRecord) -> Result<Version, TraceFault>
     }
     if is_header(Version::V3, row) {
         return Ok(Version::V3);
+    }
+    if is_header(Version::V4, row) {
+        return Ok(Version::V4);
     }
     Err(TraceFault::Header)
 }

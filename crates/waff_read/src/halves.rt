@@ -66,7 +66,8 @@ fn joined(version: Version, first: Messages, second: Messages) -> Option<Message
     Some(Messages { list, ops })
 }
 
-// The same, read by a thread for each part of a text that is halved so often.
+// The same, read by a thread for each part of a text that is halved so often. Lists name messages
+// of the whole, so a text with lists is one part.
 #[cycle(halves)]
 fn read_halves<R: Threads + Sync>(
     rt: &R,
@@ -80,7 +81,7 @@ fn read_halves<R: Threads + Sync>(
         traces.Spells version spaces.now text.now read.list) }
     ensures ops { IfSome result (λ read. read.ops ≡ ops_in read.list) }
 {
-    if halvings == 0 {
+    if halvings == 0 || version.has_after() {
         return read_part(alloc, spaces, version, text);
     }
     let (first, second) = cut_lines(text, text.len() / 2)?;

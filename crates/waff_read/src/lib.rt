@@ -4,18 +4,19 @@
 //!   `shape` (the keys and their types), `affinities` (the tree), `spaces` (the rows of a layout)
 //!   and `names` (affinities and spaces by name); `hier_error` has what it refuses.
 //! - `trace`: the reader of traces, over `columns` (the fields of a record, and the header),
-//!   `message` (one record), `place` (where it stands), `ops` (the operations of a message), `op`
-//!   (one operation), `range` (an operation on cells in a row) and `space_table` (the spaces by
-//!   name); `trace_fault` has what it refuses. `halves`, over `lines` (a text cut between its
-//!   records) and `plain` (records without quotes): the same for long traces, by several threads.
+//!   `message` (one record), `place` (where it stands), `awaits` (the list of a message), `ops`
+//!   (its operations), `op` (one operation), `range` (an operation on cells in a row) and
+//!   `space_table` (the spaces by name); `trace_fault` has what it refuses. `halves`, over `lines`
+//!   (a text cut between its records) and `plain` (records without quotes): the same for long
+//!   traces, by several threads where no message has a list.
 //! - `laws`: what holds of all files that are accepted or refused; `limit_laws`: that what is read
 //!   is within the limits.
 //!
 //! What the files stand for is defined in `specs/`. Of a hierarchy: `Hierarchies` (whole files),
 //! over `Documents`, `Shapes`, `Affinities` and `Spaces`. Of a trace: `Traces` (whole texts), over
-//! `Messages` (records at their `Places`) and `Pieces`, which are operations (`Ops`) or `Ranges` as
-//! they are spelled, with `TraceFaults` (the order of the refusals) and `Plain` (records without
-//! quotes).
+//! `Messages` (records at their `Places`), `Awaits` (lists) and `Pieces`, which are operations
+//! (`Ops`) or `Ranges` as they are spelled, with `TraceFaults` (the order of the refusals) and
+//! `Plain` (records without quotes).
 //!
 //! A file is read exactly where the format accepts it, as what is written there. Else the refusal
 //! is the one that the format names: of the first record with a fault, and of its first check that
@@ -29,6 +30,7 @@
 #![tactic(auto)]
 
 mod affinities;
+mod awaits;
 mod columns;
 mod document;
 mod halves;

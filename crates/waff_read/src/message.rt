@@ -5,6 +5,7 @@ ghost use Rattle.csv.specs.Records.{fields_of};
 ghost use Rattle.waff_parse.specs.Stopping.{Gives};
 ghost use Rattle.waff_read.specs.Messages as messages;
 
+use crate::awaits::read_after;
 use crate::columns::{Columns, read_columns};
 use crate::ops::read_ops;
 use crate::place::Place;
@@ -104,12 +105,14 @@ pub(crate) fn message_of_columns(
     let release = read_release(columns.release)?;
     let client = read_client(alloc, columns.client)?;
     let think = read_think(columns.think)?;
+    let after = read_after(alloc, place, columns.after)?;
     Ok(Message {
         name: Text::of(alloc, columns.name)?,
         cost,
         release,
         client,
         think,
+        after,
         ops,
     })
 }

@@ -68,16 +68,13 @@ fn range_or(
     requires { op_of spaces.now piece.now ≡ Err fault }
     ensures { ops_of_range result ≡ pieces.piece_of version spaces.now piece.now }
 {
-    match version {
-        Version::V1 => Err(fault),
-        Version::V2 => Err(fault),
-        Version::V3 => {
-            if fault.rank() == TraceFault::Op.rank() {
-                read_range(spaces, piece)
-            } else {
-                Err(fault)
-            }
-        }
+    if !version.has_clients() {
+        return Err(fault);
+    }
+    if fault.rank() == TraceFault::Op.rank() {
+        read_range(spaces, piece)
+    } else {
+        Err(fault)
     }
 }
 

@@ -55,6 +55,7 @@ fn next_columns(version: Version, text: &str) -> Option<(Columns<'_>, &str)>
     let (release, rest) = next_if(version.has_releases(), rest)?;
     let (client, rest) = next_if(version.has_clients(), rest)?;
     let (think, rest) = next_if(version.has_clients(), rest)?;
+    let (after, rest) = next_if(version.has_after(), rest)?;
     let (ops, rest) = next_field(rest, b'\n')?;
     let columns = Columns {
         name,
@@ -62,6 +63,7 @@ fn next_columns(version: Version, text: &str) -> Option<(Columns<'_>, &str)>
         release,
         client,
         think,
+        after,
         ops,
     };
     Some((columns, rest))

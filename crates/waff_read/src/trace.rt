@@ -2,7 +2,7 @@
 
 ghost use Rattle.std.specs.Prelude.{◌≡◌, Ok, Err, drop, IfOk, OnOk};
 ghost use Rattle.waff_model.specs.Messages.{ops_in, sizes_of};
-ghost use Rattle.waff_model.specs.declared.message.Version.TheVariants.{V3};
+ghost use Rattle.waff_model.specs.declared.message.Version.TheVariants.{V4};
 ghost use Rattle.waff_parse.specs.Rows.{Reads, records_left};
 ghost use Rattle.waff_parse.specs.Stopping.{Gives};
 ghost use Rattle.waff_read.specs.Places.{first_place};
@@ -149,10 +149,10 @@ fn trace_of(
 /// for each message. Records are numbered from 1, the header's. The first record with a fault
 /// decides.
 pub fn read_trace(alloc: Global, layout: &Layout, bytes: &[u8]) -> Result<Trace, TraceError>
-    ensures exact { traces.GivesTrace result (traces.trace_of V3 layout.now.spaces bytes.now) }
+    ensures exact { traces.GivesTrace result (traces.trace_of V4 layout.now.spaces bytes.now) }
     ensures fits { IfOk result (λ trace. trace.sizes ≡ sizes_of layout.now.spaces) }
 {
-    read_trace_up_to(alloc, layout, Version::V3, bytes)
+    read_trace_up_to(alloc, layout, Version::V4, bytes)
 }
 
 /// The trace that the bytes spell, as `read_trace` reads it, of a version up to the newest that the

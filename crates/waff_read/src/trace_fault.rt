@@ -37,6 +37,10 @@ pub enum TraceFault {
     Client,
     /// Its fifth field is not a think time.
     Think,
+    /// Its sixth field is not a list of earlier messages.
+    After,
+    /// Its list has too many messages.
+    TooManyAfter,
 }
 
 impl Ranked for TraceFault {
@@ -58,6 +62,8 @@ impl Ranked for TraceFault {
             TraceFault::Release => 13,
             TraceFault::Client => 14,
             TraceFault::Think => 15,
+            TraceFault::After => 16,
+            TraceFault::TooManyAfter => 17,
         }
     }
 }
@@ -103,6 +109,11 @@ pub enum TraceError {
     Client { at: u64 },
     /// The fifth field is not a think time within the limit.
     Think { at: u64 },
+    /// The sixth field is not a list of earlier messages by rising numbers, with gaps within the
+    /// limit.
+    After { at: u64 },
+    /// The lists have more messages than the limit.
+    TooManyAfter { at: u64 },
 }
 
 impl TraceFault {
@@ -125,6 +136,8 @@ impl TraceFault {
             TraceFault::Release => TraceError::Release { at },
             TraceFault::Client => TraceError::Client { at },
             TraceFault::Think => TraceError::Think { at },
+            TraceFault::After => TraceError::After { at },
+            TraceFault::TooManyAfter => TraceError::TooManyAfter { at },
         }
     }
 }

@@ -1,5 +1,5 @@
 -- The first messages keep the order, or where messages have clients are apart.
-use Rattle.std.proofs.Common.{◌≡◌, ◌↔◌, ◌∙◌, Bool, IsTrue, IfOk, ap, subst, sym}
+use Rattle.std.proofs.Common.{◌↔◌, ◌∙◌, Bool, IsTrue, ap, subst, sym}
 use Rattle.std.proofs.lemmas.Result.{IfOk-weaker}
 use Rattle.waff_model.specs.Versions.{has_clients}
 use Rattle.waff_assign.specs.Case.{pairs_of}

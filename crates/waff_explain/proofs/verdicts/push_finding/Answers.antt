@@ -3,7 +3,7 @@ use Rattle.waff_assign.specs.Case.{instance_of}
 use Rattle.waff_plan.specs.Timing.{timing_of}
 use Rattle.waff_check.specs.Verdicts.{claim_of, start_in}
 use Rattle.waff_check.specs.declared.verdict.Verdict.TheVariants as verdict
-use Rattle.waff_explain.proofs.NamedMessages.{follows_one, found_as, is_named, pair_is_named}
+use Rattle.waff_explain.proofs.NamedMessages.{follows_one, found_as, is_named, listed_is_named, pair_is_named}
 use Rattle.waff_explain.proofs.verdicts.push_finding.Goals as goal
 
 pub push_overlap-requires-clause-first : goal.push_overlap-requires-clause-first
@@ -74,3 +74,17 @@ push_client-requires-clause-follows c =
     subst (λ timings. 1 ≤ (timing_of timings c.in-Client.message).follows) (sym hearing.timings)
     (follows_one hearing.case.trace.now.messages (start_in claim) c.in-Client.message
     (found_as claim _ (verdict.Client c.in-Client.message) c.in-Client.is c.requires).holds)
+
+pub push_after-requires-clause-number : goal.push_after-requires-clause-number
+push_after-requires-clause-number c =
+    let hearing = c.args.hearing.now in
+    let claim = claim_of (instance_of hearing.case) hearing.given.now in
+    is_named hearing.case.trace.now.messages c.in-After.message
+    (found_as claim _ (verdict.After c.in-After.message c.in-After.awaited) c.in-After.is c.requires).least_second.holds.number
+
+pub push_after-requires-clause-awaited : goal.push_after-requires-clause-awaited
+push_after-requires-clause-awaited c =
+    let hearing = c.args.hearing.now in
+    let claim = claim_of (instance_of hearing.case) hearing.given.now in
+    listed_is_named hearing.case.trace.now c.len-messages.ensures.trace (start_in claim) c.in-After.message c.in-After.awaited
+    (found_as claim _ (verdict.After c.in-After.message c.in-After.awaited) c.in-After.is c.requires).least_second.holds

@@ -8,6 +8,7 @@ use Rattle.waff_plan.specs.Work.{length_of}
 use Rattle.waff_figures.specs.Figures.{AreFigures}
 use Rattle.waff_figures.specs.Least.{IsLowerBound, least_in}
 use Rattle.waff_figures.specs.declared.figures.Figures.{Figures}
+use Rattle.waff_figures.proofs.LeastLaws.{follows_in}
 use Rattle.waff_figures.proofs.sweep.figures_for.Goals as goal
 
 pub invariant_of-planned : goal.invariant_of-planned
@@ -31,7 +32,8 @@ returns-clause-listed c =
     let limit = Some c.args.k in
     let shortest = length_of (work_of plan.timings) (start_of plan.starts) in
     let least = rw (unlimited.version, unlimited.timings) at c.requires.least in
-    let bound = c.least_is_lower_bound.ensures.bound instance limit (start_of plan.starts) (subst IsWorkers c.number-fits.ensures.number c.number-fits.ensures.is) c.len-affinities.ensures.tree case.lengths least in
+    let bound = c.least_is_lower_bound.ensures.bound instance limit (start_of plan.starts) (subst IsWorkers c.number-fits.ensures.number c.number-fits.ensures.is) c.len-affinities.ensures.tree case.lengths
+    (follows_in instance c.len-messages.ensures.trace) least in
     IfOk-weaker c.figures_of-figures.result (AreFigures limit work (least_in limit instance shortest) (start_of made.plan.starts)) _
     (λ figures told. record {
       k = c.args.k;

@@ -1,7 +1,7 @@
 use Rattle.std.proofs.Common.{None, codes}
-use Rattle.waff_limits.specs.Limits.{affinity_field, cell_field, client_field, limit_row, ticks_of}
+use Rattle.waff_limits.specs.Limits.{affinity_field, after_lines, cell_field, client_field, limit_row, ticks_of}
 use Rattle.waff_limits.specs.Writes.{ticks_shared}
-use Rattle.waff_limits.proofs.LimitLemmas.{five_lines, most_is_cell, most_used_is_cell}
+use Rattle.waff_limits.proofs.LimitLemmas.{bound_parts, most_is_cell, most_used_is_cell}
 use Rattle.waff_limits.proofs.Sharing.{shared_within}
 use Rattle.waff_limits.proofs.text.push_bounds.Goals as goal
 
@@ -23,11 +23,13 @@ returns c =
     let limits = c.args.limits.now in
     let case = c.args.unlimited.now.case in
     let spaces = c.args.layout.now.spaces in
-    five_lines
+    bound_parts
     (limit_row (codes "clients") None limits.total limits.client.ticks (client_field case.trace.now.messages limits.client))
+    (after_lines case.trace.now.version limits.total limits.after)
     (limit_row (codes "writes") None limits.total (ticks_of limits.writes) (cell_field spaces limits.writes))
     (limit_row (codes "data") None limits.total (ticks_of limits.cell) (cell_field spaces limits.cell))
     (limit_row (codes "tree") None limits.total limits.path.ticks (affinity_field case.tree.now limits.path))
     (limit_row (codes "order") None limits.total limits.order (codes "-"))
-    _ _ _ _ _ _ (rw c.client_name.ensures at c.in_ok-push_row.ensures) c.in_ok-push_data.ensures c.in_ok-push_data-2.ensures
-    (rw c.affinity_name.ensures at c.in_ok-push_row-2.ensures) c.in_ok-push_row-3.ensures
+    _ _ _ _ _ _ _ (rw c.client_name-name.ensures at c.in_ok-push_row.ensures) (rw c.version.ensures at c.in_ok-push_after.ensures) c.in_ok-push_data.ensures
+    c.in_ok-push_data-2.ensures
+    (rw c.affinity_name-name.ensures at c.in_ok-push_row-2.ensures) c.in_ok-push_row-3.ensures

@@ -5,7 +5,7 @@ use Rattle.waff_parse.specs.Rows.{records_of}
 use Rattle.waff_read.specs.Places.{first_place}
 use Rattle.waff_read.specs.Traces.{trace_of}
 use Rattle.waff_read.proofs.HalfLaws.{made-long, ok-has, read-is, trace-behind}
-use Rattle.waff_read.proofs.TraceLaws.{messages-few, messages-fit, ops-few}
+use Rattle.waff_read.proofs.TraceLaws.{awaited-few, lists-read, messages-few, messages-fit, ops-few}
 use Rattle.waff_read.proofs.halves.read_long.Goals as goal
 
 pub of_messages-requires-clause-messages : goal.of_messages-requires-clause-messages
@@ -20,6 +20,14 @@ of_messages-requires-clause-few g c =
 pub of_messages-requires-clause-few_ops : goal.of_messages-requires-clause-few_ops
 of_messages-requires-clause-few_ops g c =
     omega (arith, ops-few c.version-version.result c.in_ok-spaces.spaces first_place (records_of c.in_ok-first.rows.now) c.in_ok-messages.messages.list c.in_ok-messages.ensures.messages (omega arith))
+
+pub of_messages-requires-clause-lists : goal.of_messages-requires-clause-lists
+of_messages-requires-clause-lists g c =
+    lists-read c.version-version.result c.in_ok-spaces.spaces first_place (records_of c.in_ok-first.rows.now) c.in_ok-messages.messages.list c.in_ok-messages.ensures.messages (omega arith)
+
+pub of_messages-requires-clause-few_awaited : goal.of_messages-requires-clause-few_awaited
+of_messages-requires-clause-few_awaited g c =
+    omega (arith, awaited-few c.version-version.result c.in_ok-spaces.spaces first_place (records_of c.in_ok-first.rows.now) c.in_ok-messages.messages.list c.in_ok-messages.ensures.messages (omega arith))
 
 pub returns : goal.returns
 returns g c =

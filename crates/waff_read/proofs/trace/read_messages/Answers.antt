@@ -15,6 +15,7 @@ loop-list-init c =
     let none = c.new-list.ensures.items in record {
       reads = c.requires;
       place = rw (none, c.first-place.ensures) refl;
+      awaited = rw c.first-place.ensures (omega arith);
       messages = rw (none, c.first-place.ensures) (with_front-nil _);
     }
 
@@ -36,15 +37,23 @@ next-place-requires-clause-ops c =
     let fits = next-fits c.args.version c.args.spaces.now c.loop-list.place (records_left c.loop-list.rdr) (records_left c.next_message.new.rdr) c.in-Some.message given in
     fits.room
 
+pub next-place-requires-clause-awaited : goal.next-place-requires-clause-awaited
+next-place-requires-clause-awaited c =
+    let given = rw c.in-Some.is at c.in_ok-message.ensures.message in
+    let fits = next-fits c.args.version c.args.spaces.now c.loop-list.place (records_left c.loop-list.rdr) (records_left c.next_message.new.rdr) c.in-Some.message given in
+    omega (arith, fits.after.few, c.loop-list.invariant.awaited)
+
 pub loop-list-preserved : goal.loop-list-preserved
 loop-list-preserved c =
     let given = rw c.in-Some.is at c.in_ok-message.ensures.message in
+    let fits = next-fits c.args.version c.args.spaces.now c.loop-list.place (records_left c.loop-list.rdr) (records_left c.next_message.new.rdr) c.in-Some.message given in
     let pushed = c.in_ok-push.ensures.items in
     let before = c.loop-list.invariant in record {
       reads = c.in_ok-message.ensures.reads;
       place = rw pushed
           (c.next-place.ensures ∙ ap (λ (p : Place). next_place p c.in-Some.message) before.place
           ∙ sym (behind-push first_place c.loop-list.list.items c.in-Some.message));
+      awaited = rw c.next-place.ensures (omega (arith, fits.after.few, before.awaited));
       messages = rw (pushed, c.next-place.ensures)
           (walk-message c.args.version c.args.spaces.now c.loop-list.place c.loop-list.list.items (records_left c.loop-list.rdr) (records_left c.next_message.new.rdr) c.in-Some.message given ∙ before.messages);
     }

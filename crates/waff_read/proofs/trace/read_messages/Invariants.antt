@@ -1,4 +1,5 @@
-use Rattle.std.proofs.Common.{◌≡◌, length}
+use Rattle.std.proofs.Common.{◌≡◌, ◌≤◌, length}
+use Rattle.waff_model.specs.declared.limits.TheConstants.{MAX_AWAITED}
 use Rattle.waff_parse.specs.Rows.{Reads, records_left}
 use Rattle.waff_parse.specs.Walks.{with_front}
 use Rattle.waff_read.specs.Places.{behind, first_place}
@@ -9,6 +10,7 @@ abbrev pub invariant-loop-list : goal.invariant-loop-list
 invariant-loop-list l = record {
   reads : Reads l.rdr;
   place : l.place ≡ behind first_place l.list.items;
+  awaited : l.place.awaited ≤ MAX_AWAITED;
   messages : with_front l.list.items (messages_at l.version l.spaces l.place (records_left l.rdr))
       ≡ messages_at l.version l.spaces first_place (records_left l.initial.rdr);
 }

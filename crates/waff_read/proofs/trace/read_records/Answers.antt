@@ -2,7 +2,7 @@
 use Rattle.std.proofs.Common.{arith}
 use Rattle.waff_parse.specs.Rows.{records_left}
 use Rattle.waff_read.specs.Places.{first_place}
-use Rattle.waff_read.proofs.TraceLaws.{messages-few, messages-fit, ops-few}
+use Rattle.waff_read.proofs.TraceLaws.{awaited-few, lists-read, messages-few, messages-fit, ops-few}
 use Rattle.waff_read.proofs.trace.read_records.Goals as goal
 
 pub of_messages-requires-clause-messages : goal.of_messages-requires-clause-messages
@@ -17,3 +17,11 @@ of_messages-requires-clause-few c =
 pub of_messages-requires-clause-few_ops : goal.of_messages-requires-clause-few_ops
 of_messages-requires-clause-few_ops c =
     omega (arith, ops-few c.in_ok-version.version c.args.spaces.now first_place (records_left c.read_header.new.rdr) c.in_ok-messages.messages.list c.in_ok-messages.ensures.messages (omega arith))
+
+pub of_messages-requires-clause-lists : goal.of_messages-requires-clause-lists
+of_messages-requires-clause-lists c =
+    lists-read c.in_ok-version.version c.args.spaces.now first_place (records_left c.read_header.new.rdr) c.in_ok-messages.messages.list c.in_ok-messages.ensures.messages (omega arith)
+
+pub of_messages-requires-clause-few_awaited : goal.of_messages-requires-clause-few_awaited
+of_messages-requires-clause-few_awaited c =
+    omega (arith, awaited-few c.in_ok-version.version c.args.spaces.now first_place (records_left c.read_header.new.rdr) c.in_ok-messages.messages.list c.in_ok-messages.ensures.messages (omega arith))
