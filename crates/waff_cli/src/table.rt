@@ -110,13 +110,13 @@ Then a line each:
   workers   K, or -
   total     the sum of all costs
   length    the last finish
-  chain     messages of which each excludes the one before, or is the next of
-            its client
+  chain     messages of which each excludes the one before, or awaits it, as
+            the next of its client does
   release   of a trace with releases: that of the first of the chain; of one
             with clients the ticks in which nothing of the chain runs: the
             release of its first, or the think time if that is greater and no
-            message of the client is before it, and the think times between
-            messages of the chain
+            message of the client is before it, and the think times and gaps
+            between messages of the chain
   cost      the cost of the chain
   bound     two numbers, the left never above the right: without --workers the
             length, and release + cost; with --workers K * length, and
@@ -176,6 +176,8 @@ Example: waff limits hier.toml trace.csv --workers 4,8
 A line for each limit, work and plan for each number of workers:
   work     the total cost / K, rounded up
   clients  the last finish where no message waits but for its own client
+  after    of a trace with the column after: the last finish where no message
+           waits but for its own client and for those in its after
   writes   the greatest cost of messages that write a common cell, with that of
            the longest one that only reads it
   data     the greatest cost of messages that touch a common cell
@@ -187,10 +189,12 @@ Its columns:
   workers  K, or -
   length   in ticks
   speedup  the total / the length
-  at       the client, the cell or the affinity that limits so; - for none
-Whatever the order of service, no plan is shorter than work, clients, writes,
-data and tree, and writes and data limit so under every tree of these spaces. If
-data is more than writes, readers of one cell would do better if they shared it.
+  at       the client, the message, the cell or the affinity that limits so; -
+           for none
+Whatever the order of service, no plan is shorter than work, clients, after,
+writes, data and tree, and writes and data limit so under every tree of these
+spaces. If data is more than writes, readers of one cell would do better if they
+shared it.
 In arrival order none is shorter than order; where the trace has clients none
 that serves the messages as the plan without a limit on workers does."
     ),
@@ -250,12 +254,14 @@ One line. A fault of the plan:
   affinity     a message has another affinity than its own
   finish       a finish is not the start plus the cost
   totals       the summary has another sum
-  notachain    a message of the chain does not exclude the one before, and is
-               not the next of its client
+  notachain    a message of the chain does not exclude the one before, and does
+               not await it, as the next of its client does
   early        a message starts before its release, or before its client has
                thought for the first time
   client       a message starts before its client has thought after the answer
                to the one before
+  after        a message starts before one in its after has finished, or before
+               the gap behind that has passed
 No fault:
   shortest     no plan in arrival order is shorter; where the trace has clients,
                no plan for so many workers, in any order
@@ -265,8 +271,9 @@ No fault:
                same order
   obeys        nothing more is known
 In arrival order, of two messages that exclude each other the first one of the
-trace runs first. Only traces with clients have the verdicts client and tight.
-waff explain says the same in words.",
+trace runs first. Only traces with clients have the verdicts client and tight,
+and only those with the column after the verdict after. waff explain says the
+same in words.",
         "\
 Exit status:
   0  no fault in the plan
@@ -555,9 +562,9 @@ Example: waff run hier.toml trace.csv disk --workers 4 --trace measured.csv
 Runs the messages of the trace on K threads, with reads and writes of these
 files, in the order of the tree, and prints the plan of what happened, with the
 starts and costs that were measured. The costs of the trace count for nothing;
-its releases and think times are waited for. FILE is the trace with the measured
-costs, for which waff check finds the plan to obey; it is FILE.part until all is
-written.
+its releases and think times are waited for, and what messages await. FILE is
+the trace with the measured costs, for which waff check finds the plan to obey;
+it is FILE.part until all is written.
 
 Reads of what was never written touch no device: see --fill. What lies in the
 page cache is read from there. A message that takes more than 1000000 ticks ends
@@ -582,7 +589,7 @@ Example: waff explain hier.toml trace.csv plan.csv
 The line that the other commands print, then:
   where    the file, and the place in it
   message  each message that a verdict names, where the trace has clients with
-           its client, think time and issue
+           its client, think time and issue, and with those that it awaits
   found    what stands there
   why      of an overlap: the way in the tree from the lower affinity to the
            other

@@ -1,5 +1,5 @@
 -- A trace that is the same but for its costs is the same work but for its costs.
-use Rattle.std.proofs.Common.{◌≡◌, ℕ, zero, suc, ◌+◌, ◌-◌, ◌<◌, ◌≤◌, List, [], length, get_or, inl, inr, arith, sym, ◌∙◌, ap, ap₂}
+use Rattle.std.proofs.Common.{◌≡◌, ℕ, zero, suc, ◌+◌, ◌-◌, ◌<◌, ◌≤◌, List, [], ◌++◌, length, get_or, inl, inr, arith, sym, ◌∙◌, ap, ap₂}
 use Rattle.std.proofs.lemmas.Bool.{cases_lt}
 use Rattle.std.proofs.lemmas.List.{ext_get_or, get_or-map, get_or_past, length-map}
 use Rattle.std.proofs.lemmas.List.FromFn.{get_or-map-range_with_len}
@@ -7,7 +7,8 @@ use Rattle.waff_model.specs.Messages.{Arrivals}
 use Rattle.waff_model.specs.declared.message.Message.{Message}
 use Rattle.waff_plan.specs.Clients.{one_before}
 use Rattle.waff_plan.specs.Timetable.{clients_of, floor_of, message_of, no_message, timing_at, timings_of, work_of_messages}
-use Rattle.waff_plan.specs.Timing.{await_of, no_timing, timing_of}
+use Rattle.waff_plan.specs.Timing.{awaits_by, await_of, no_timing, timing_of}
+use Rattle.waff_plan.specs.declared.timing.Awaited.TheVariants.{Every}
 use Rattle.waff_plan.specs.declared.timing.Timing.{Timing}
 use Rattle.waff_plan.proofs.TimingLemmas.{length-timings_of}
 use Rattle.waff_record.specs.Rounded.{HasOtherCosts}
@@ -62,5 +63,5 @@ module _ (trace measured : Arrivals) (is : IsMeasured trace measured) where
     floor = alike (λ (t : Timing). t.floor) (λ k within.
         floor_alike (message_of trace.messages (k + 1)) (message_of measured.messages (k + 1)) (same_at k within) (one_before (clients_of measured.messages) (k + 1))
         ∙ ap (floor_of (message_of trace.messages (k + 1))) (follows_alike (k + 1)));
-    awaits = alike (λ (t : Timing). await_of t.follows t.think) (λ k within. ap₂ await_of (follows_alike (k + 1)) (same_at k within).think);
+    awaits = alike (awaits_by Every) (λ k within. ap₂ (λ xs ys. xs ++ ys) (ap₂ await_of (follows_alike (k + 1)) (same_at k within).think) (same_at k within).after);
   }

@@ -3,7 +3,8 @@ use Rattle.std.proofs.Common.{◌≡◌, ◌≢◌, ℕ, ◌+◌, ◌-◌, ◌<�
 use Rattle.std.proofs.lemmas.Bool.{cases_eq}
 use Rattle.std.proofs.lemmas.List.{get_or-set_other, get_or-set_same, length-set}
 use Rattle.waff_plan.specs.Timetable.{Timetable, starts_in, with_cost, with_turn, work_in}
-use Rattle.waff_plan.specs.Timing.{await_of, no_timing, timing_of}
+use Rattle.waff_plan.specs.Timing.{awaits_by, no_timing, timing_of}
+use Rattle.waff_plan.specs.declared.timing.Awaited.TheVariants.{Every}
 use Rattle.waff_plan.specs.Work.{Work, IsAmongFirst, finish_of}
 use Rattle.waff_plan.specs.declared.timing.Timing.{Timing}
 use Rattle.waff_record.specs.Rounded.{HasOtherCosts}
@@ -44,7 +45,7 @@ module _ (plan : Timetable) (n start cost : ℕ) where
     costs_stay ticks has = record {
       count = count_stays ∙ has.count;
       floor = λ m. stays (λ (t : Timing). t.floor) (λ t. refl) within_timings m ∙ has.floor m;
-      awaits = λ m. stays (λ (t : Timing). await_of t.follows t.think) (λ t. refl) within_timings m ∙ has.awaits m;
+      awaits = λ m. stays (awaits_by Every) (λ t. refl) within_timings m ∙ has.awaits m;
     }
 
     -- another message starts and finishes as it did

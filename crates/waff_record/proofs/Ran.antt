@@ -2,8 +2,9 @@
 use Rattle.std.proofs.Common.{◌≡◌, ◌≢◌, ℕ, zero, suc, ◌-◌, ◌<◌, ◌≤◌, inl, inr, List, [], ◌∷◌, length, map, get_or, arith, refl, sym, ◌∙◌, ap, subst}
 use Rattle.waff_model.specs.Tree.{Excludes}
 use Rattle.waff_model.specs.declared.message.Version.{Version}
-use Rattle.waff_model.specs.declared.message.Version.TheVariants.{V1, V2, V3}
+use Rattle.waff_model.specs.declared.message.Version.TheVariants.{V1, V2, V3, V4}
 use Rattle.waff_assign.specs.Order.{affinity_of}
+use Rattle.waff_plan.specs.Issues.{IsServedBefore}
 use Rattle.waff_plan.specs.Obeys.{AwaitsEarlier}
 use Rattle.waff_plan.specs.Serving.{served_before}
 use Rattle.waff_plan.specs.Work.{IsAmongFirst, IsAwaited, finish_of, issue_of}
@@ -98,13 +99,10 @@ module _ (course : Course) (turns : List Turn) (ran : AreRunTurns course turns) 
       let two = finish_is i from in
       omega (arith, one, two))
 
-  -- the order of the run is that of the state
-  order_seen : AwaitsEarlier course.work → (version : Version) → (i j : ℕ)
-      → served_before version course.tree course.assigned (measured_by course turns) (λ n. (turn_at turns n).start) i j
-      → served_before version course.tree course.assigned (measured course ran.state) (start_in ran.state) i j
-  order_seen earlier V1 i j pair = pair
-  order_seen earlier V2 i j pair = pair
-  order_seen earlier V3 i j pair = record {
+  served_seen : AwaitsEarlier course.work → (i j : ℕ)
+      → IsServedBefore course.tree course.assigned (measured_by course turns) (λ n. (turn_at turns n).start) i j
+      → IsServedBefore course.tree course.assigned (measured course ran.state) (start_in ran.state) i j
+  served_seen earlier i j pair = record {
     first = pair.first;
     second = pair.second;
     precedes =
@@ -116,6 +114,15 @@ module _ (course : Course) (turns : List Turn) (ran : AreRunTurns course turns) 
         ];
     excludes = pair.excludes;
   }
+
+  -- the order of the run is that of the state
+  order_seen : AwaitsEarlier course.work → (version : Version) → (i j : ℕ)
+      → served_before version course.tree course.assigned (measured_by course turns) (λ n. (turn_at turns n).start) i j
+      → served_before version course.tree course.assigned (measured course ran.state) (start_in ran.state) i j
+  order_seen earlier V1 i j pair = pair
+  order_seen earlier V2 i j pair = pair
+  order_seen earlier V3 i j pair = served_seen earlier i j pair
+  order_seen earlier V4 i j pair = served_seen earlier i j pair
 
   -- what was served first ended before the other began
   pub ran_order : AwaitsEarlier course.work → (i j : ℕ) → 1 ≤ i → 1 ≤ j → run_order course turns i j

@@ -4,7 +4,7 @@ use Rattle.std.proofs.lemmas.Bool.{cases_lt}
 use Rattle.std.proofs.lemmas.Option.{same_Some}
 use Rattle.waff_model.specs.Tree.{Excludes}
 use Rattle.waff_model.specs.declared.message.Version.{Version}
-use Rattle.waff_model.specs.declared.message.Version.TheVariants.{V1, V2, V3}
+use Rattle.waff_model.specs.declared.message.Version.TheVariants.{V1, V2, V3, V4}
 use Rattle.waff_assign.specs.Order.{IsOrdered, affinity_of}
 use Rattle.waff_plan.specs.Apart.{AreApart}
 use Rattle.waff_plan.specs.Obeys.{AwaitsEarlier}
@@ -60,6 +60,7 @@ module _ (course : Course) (ticks : Work) (tick : ℕ) (turns : List Turn) (is :
   pair_parts V1 i j pair = ordered_parts i j pair
   pair_parts V2 i j pair = ordered_parts i j pair
   pair_parts V3 i j pair = (pair.first, pair.second, pair.excludes)
+  pair_parts V4 i j pair = (pair.first, pair.second, pair.excludes)
 
   module _ (work : Work) (start : ℕ → ℕ) (rounded : IsRounded course ticks tick turns work start) where
     pub number_told : (m : ℕ) → IsAmongFirst course.work.count m → IsNumber work m

@@ -31,6 +31,7 @@ pub record IsSameButCost (message other : Message) : Type 0 where
   pub release : other.release ≡ message.release
   pub client : other.client ≡ message.client
   pub think : other.think ≡ message.think
+  pub after : other.after ≡ message.after
   pub ops : other.ops ≡ message.ops
 
 -- a trace has the messages of another with other costs

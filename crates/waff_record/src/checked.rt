@@ -22,7 +22,7 @@ use waff_assign::Case;
 use waff_check::{GivenPlan, PlanTextError, Verdict, check, read_plan};
 use waff_inputs::{Accepted, ToolError, accept_by_threads};
 use waff_line::Turn;
-use waff_model::{Message, Ops, Trace};
+use waff_model::{Await, Message, Ops, Trace};
 use waff_plan::Plan;
 
 /// Reads the measured trace, and the hierarchy again.
@@ -210,7 +210,8 @@ fn tells_no_fault(verdict: &Verdict) -> bool
         | Verdict::Totals
         | Verdict::NotAChain { .. }
         | Verdict::Early { .. }
-        | Verdict::Client { .. } => false,
+        | Verdict::Client { .. }
+        | Verdict::After { .. } => false,
     }
 }
 
@@ -237,7 +238,15 @@ fn is_same_but_cost(message: &Message, other: &Message) -> bool
         && other.release == message.release
         && other.client.as_str() == message.client.as_str()
         && other.think == message.think
+        && are_same_awaited(other.after.as_slice(), message.after.as_slice())
         && are_same(&other.ops, &message.ops)
+}
+
+/// Whether two lists of messages that are awaited are the same.
+fn are_same_awaited(after: &[Await], other: &[Await]) -> bool
+    ensures { OnTrue result (after.now ≡ other.now) }
+{
+    after == other
 }
 
 /// Whether two lists of operations are the same.

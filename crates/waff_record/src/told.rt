@@ -1,7 +1,7 @@
 //! What is told of a run: the trace with the measured costs, and the plan.
 
 ghost use Rattle.std.specs.Bool.{OnTrue};
-ghost use Rattle.std.specs.Prelude.{◌≤◌, All};
+ghost use Rattle.std.specs.Prelude.{◌≤◌, All, length};
 ghost use Rattle.waff_plan.specs.Bound.{IsWorkers};
 ghost use Rattle.waff_plan.specs.Chain.{IsListed};
 ghost use Rattle.waff_record.specs.Ran.{IsToldRun};
@@ -11,14 +11,16 @@ use csv::StringRecord;
 use std::alloc::{AllocError, Global};
 use std::fmt::Write;
 use waff_assign::Case;
+use waff_model::Await;
 use waff_model::limits::MAX_TICK;
 use waff_parse::{next_text, text_rows};
 use waff_plan::printed::started_chain;
 use waff_plan::{Plan, Planned};
 use waff_plan_text::worker_text;
 
-/// The trace of these bytes with the costs of this plan of its messages in place of its own: all other fields as they
-/// stand, so that ranges stay ranges. None where the bytes are no trace of as many messages.
+/// The trace of these bytes with the costs of this plan of its messages in place of its own. Lists of messages that are
+/// awaited are spelled again, without gaps of 0; all other fields are as they stand, so that ranges stay ranges. None
+/// where the bytes are no trace of as many messages.
 pub fn measured_text(
     alloc: Global,
     trace: &[u8],
@@ -34,28 +36,61 @@ pub fn measured_text(
             // The bytes were read before as a trace, so that nothing but memory lacks.
             Err(_) => return Err(AllocError),
         }
-        let cost = if number == 0 {
-            None
-        } else {
-            Some(plan.cost(number))
-        };
-        push_record(&mut text, &row, cost)?;
+        let (cost, list) = told_fields(plan, number);
+        push_record(&mut text, &row, cost, list)?;
     }
     Ok(Some(text))
 }
 
-/// Appends a record, with this cost in its second field.
-fn push_record(text: &mut String, row: &StringRecord, cost: Option<u64>) -> Result<(), AllocError> {
+/// What the record of message `number` tells anew: its cost, and its list where the trace has lists. Nothing for 0, the
+/// header.
+fn told_fields(plan: &Plan, number: u32) -> (Option<u64>, Option<&[Await]>)
+    requires number { number ≤ length plan.now.timings }
+{
+    if number == 0 {
+        return (None, None);
+    }
+    let list = if plan.version().has_after() {
+        Some(plan.after(number))
+    } else {
+        None
+    };
+    (Some(plan.cost(number)), list)
+}
+
+/// Appends a record, with this cost in its second field and this list in its sixth.
+fn push_record(
+    text: &mut String,
+    row: &StringRecord,
+    cost: Option<u64>,
+    list: Option<&[Await]>,
+) -> Result<(), AllocError> {
     for at in 0..row.len() {
         if at > 0 {
             text.push(',')?;
         }
-        match (at, cost) {
-            (1, Some(cost)) => write!(text, "{cost}")?,
+        match (at, cost, list) {
+            (1, Some(cost), _) => write!(text, "{cost}")?,
+            (5, _, Some(list)) => push_list(text, list)?,
             _ => text.push_str(row.get(at).unwrap_or(""))?,
         }
     }
     text.push('\n')
+}
+
+/// Appends a list of messages that are awaited, each with its gap where that is not 0.
+fn push_list(text: &mut String, list: &[Await]) -> Result<(), AllocError> {
+    for at in 0..list.len() {
+        if at > 0 {
+            text.push(' ')?;
+        }
+        let Await { message, gap } = list[at];
+        write!(text, "{message}")?;
+        if gap > 0 {
+            write!(text, "+{gap}")?;
+        }
+    }
+    Ok(())
 }
 
 /// The text of the plan that is told of a run, with its printed chain, for a case that has the costs that are told. None

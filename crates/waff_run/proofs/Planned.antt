@@ -2,7 +2,7 @@
 use Rattle.std.proofs.Common.{◌≡◌, ℕ, List, length, sym}
 use Rattle.waff_model.specs.Tree.{Node}
 use Rattle.waff_model.specs.declared.message.Version.{Version}
-use Rattle.waff_model.specs.declared.message.Version.TheVariants.{V1, V2, V3}
+use Rattle.waff_model.specs.declared.message.Version.TheVariants.{V1, V2, V3, V4}
 use Rattle.waff_assign.specs.Order.{IsOrdered}
 use Rattle.waff_plan.specs.Apart.{AreApart}
 use Rattle.waff_plan.specs.Obeys.{EachRuns, Obeys}
@@ -30,6 +30,7 @@ apart : (version : Version) (tree : List Node) (assigned : List ℕ) (work : Wor
 apart V1 tree assigned work start long runs obeys = λ i j pair. apart_where_finished work start i j (obeys.ordered i j pair.ordered) pair.together
 apart V2 tree assigned work start long runs obeys = λ i j pair. apart_where_finished work start i j (obeys.ordered i j pair.ordered) pair.together
 apart V3 tree assigned work start long runs obeys = served_apart tree assigned work long runs start obeys
+apart V4 tree assigned work start long runs obeys = served_apart tree assigned work long runs start obeys
 
 pub planned : (course : Course) → IsCourse course → AreLaws course → (events : List Event) (s : State) → Runs course (opening course) events s
     → AreAllEnded course s → ArePlanned course events s

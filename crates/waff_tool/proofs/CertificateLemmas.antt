@@ -3,7 +3,7 @@ use Rattle.std.proofs.Common.{◌≡◌, ℕ, ◌-◌, ◌<◌, ◌≤◌, List,
 use Rattle.waff_model.specs.Tree.{Node}
 use Rattle.waff_model.specs.declared.message.Message.{Message}
 use Rattle.waff_model.specs.declared.message.Version.{Version}
-use Rattle.waff_model.specs.declared.message.Version.TheVariants.{V1, V2, V3}
+use Rattle.waff_model.specs.declared.message.Version.TheVariants.{V1, V2, V3, V4}
 use Rattle.waff_assign.specs.Instance.{Instance}
 use Rattle.waff_assign.specs.Order.{IsOrdered, Relation}
 use Rattle.waff_plan.specs.Work.{IsAmongFirst, Work}
@@ -59,6 +59,10 @@ busy_served V3 Arrival tree assigned work k start plan =
     busy_of (IsServedBefore tree assigned work start) (IsTakenByIssue arrival work start) work k start plan
 busy_served V3 Longest tree assigned work k start (tail, tails, plan) =
     busy_of (IsServedBefore tree assigned work start) (IsTakenByIssue tail work start) work k start plan
+busy_served V4 Arrival tree assigned work k start plan =
+    busy_of (IsServedBefore tree assigned work start) (IsTakenByIssue arrival work start) work k start plan
+busy_served V4 Longest tree assigned work k start (tail, tails, plan) =
+    busy_of (IsServedBefore tree assigned work start) (IsTakenByIssue tail work start) work k start plan
 
 module _ (instance : Instance) (are : AreTimings instance.trace.version (timings_of instance.trace.messages))
     (same : length instance.assigned ≡ length instance.trace.messages) (start : ℕ → ℕ) (chain : List ℕ)
@@ -80,14 +84,18 @@ module _ (instance : Instance) (are : AreTimings instance.trace.version (timings
       let within : m - 1 < length timings = omega (arith, number.from, number.to, count) in
       (are.small (m - 1) no_timing within).some_cost
 
+  apart_by_issue : Obeys (IsServedBefore instance.tree instance.assigned work start) work start → AreApart (IsOrdered instance.tree instance.assigned) work start
+  apart_by_issue obeys =
+      let as_many : length instance.assigned ≡ work.count = same ∙ sym (count_is instance.trace.messages) in
+      served_apart instance.tree instance.assigned work as_many
+      (λ m number. run m (record { from = number.from; to = omega (arith, number.to, as_many) })) start obeys
+
   apart : (version : Version) → Obeys (served_before version instance.tree instance.assigned work start) work start
       → AreApart (IsOrdered instance.tree instance.assigned) work start
   apart V1 obeys = λ i j pair. apart_where_finished work start i j (obeys.ordered i j pair.ordered) pair.together
   apart V2 obeys = λ i j pair. apart_where_finished work start i j (obeys.ordered i j pair.ordered) pair.together
-  apart V3 obeys =
-      let as_many : length instance.assigned ≡ work.count = same ∙ sym (count_is instance.trace.messages) in
-      served_apart instance.tree instance.assigned work as_many
-      (λ m number. run m (record { from = number.from; to = omega (arith, number.to, as_many) })) start obeys
+  apart V3 obeys = apart_by_issue obeys
+  apart V4 obeys = apart_by_issue obeys
 
   alike : Obeys (served_first instance start) work start → Obeys before work start → AlikeObey instance start
   alike served obeys =

@@ -1,12 +1,13 @@
 -- Two hierarchies on one trace.
-use Rattle.std.proofs.Common.{◌≡◌, ◌≢◌, ℕ, ◌≤◌, refl, subst, List, [], ◌∷◌, ◌++◌, decimal, inl, append_assoc, rules}
+use Rattle.std.proofs.Common.{◌≡◌, ℕ, ◌≤◌, Bool, true, false, subst, List, [], ◌∷◌, ◌++◌, decimal, inl, append_assoc, rules}
 use Rattle.std.specs.List.{join_with_byte}
 use Rattle.waff_model.specs.Layout.{Hierarchy}
 use Rattle.waff_model.specs.Tree.{Node}
 use Rattle.waff_model.specs.declared.kind.Kind.{Kind}
 use Rattle.waff_model.specs.declared.message.Version.{Version}
-use Rattle.waff_model.specs.declared.message.Version.TheVariants.{V1, V2, V3}
+use Rattle.waff_model.specs.declared.message.Version.TheVariants.{V1, V2, V3, V4}
 use Rattle.waff_model.specs.Messages.{Arrivals}
+use Rattle.waff_model.specs.Versions.{has_clients}
 use Rattle.waff_assign.specs.Case.{instance_of}
 use Rattle.waff_assign.specs.Instance.{Instance}
 use Rattle.waff_assign.specs.Order.{IsOrdered}
@@ -21,7 +22,7 @@ use Rattle.waff_plan.specs.declared.totals.Totals.{Totals}
 use Rattle.waff_plan_text.specs.Lines.{line_text}
 use Rattle.waff_read.specs.declared.trace_fault.TraceError.{TraceError}
 use Rattle.waff_read.specs.declared.trace_fault.TraceError.TheVariants as trace
-use Rattle.waff_tool.specs.Comparison.{AreCertifiedTotals, AreListTotals, IsMeasured, plan_fields}
+use Rattle.waff_tool.specs.Comparison.{AreCertifiedTotals, AreListTotals, IsMeasured, fields_where}
 use Rattle.waff_inputs.specs.ToolErrors.{trace_error}
 use Rattle.waff_inputs.specs.declared.fault.ToolError.TheVariants as tool
 use Rattle.waff_tool.specs.declared.measures.Measured.{Measured}
@@ -38,23 +39,24 @@ measured_of layout case k kind unlimited listed same is least by_arrival =
       by_arrival = subst (λ tree. AreListTotals (under tree) k listed) same by_arrival;
     }
 
--- before the third version a plan is least in the order of the trace
-in_order : (version : Version) → version ≢ V3 → (tree : List Node) (assigned : List ℕ) (work : Work) (start : ℕ → ℕ)
+-- without clients a plan is least in the order of the trace
+in_order : (version : Version) → has_clients version ≡ false → (tree : List Node) (assigned : List ℕ) (work : Work) (start : ℕ → ℕ)
     → IsLeast (served_before version tree assigned work start) work start → IsLeast (IsOrdered tree assigned) work start
-in_order V1 earlier tree assigned work start least = least
-in_order V2 earlier tree assigned work start least = least
-in_order V3 earlier tree assigned work start least = absurd (earlier refl)
+in_order V1 without tree assigned work start least = least
+in_order V2 without tree assigned work start least = least
+in_order V3 without tree assigned work start least = absurd (cc)
+in_order V4 without tree assigned work start least = absurd (cc)
 
 -- the least plan under a hierarchy that refines another is no longer
 pub refined_is_no_longer : (classical hierarchical : Hierarchy) (coarse fine : List ℕ) (trace : Arrivals) (k : ℕ)
     (of_classical of_hierarchical : Measured) → IsMeasured classical coarse trace k of_classical
     → IsMeasured hierarchical fine trace k of_hierarchical
     → LeastIsNoLonger (IsOrdered hierarchical.tree fine) (IsOrdered classical.tree coarse) (work_of_messages trace.messages)
-    → trace.version ≢ V3 → of_hierarchical.unlimited.length ≤ of_classical.unlimited.length
-refined_is_no_longer classical hierarchical coarse fine trace k of_classical of_hierarchical one other no_longer earlier =
+    → has_clients trace.version ≡ false → of_hierarchical.unlimited.length ≤ of_classical.unlimited.length
+refined_is_no_longer classical hierarchical coarse fine trace k of_classical of_hierarchical one other no_longer without =
     let work = work_of_messages trace.messages in
-    let fine_least = in_order trace.version earlier hierarchical.tree fine work (start_of other.least.starts) other.least.certified.least in
-    let coarse_least = in_order trace.version earlier classical.tree coarse work (start_of one.least.starts) one.least.certified.least in
+    let fine_least = in_order trace.version without hierarchical.tree fine work (start_of other.least.starts) other.least.certified.least in
+    let coarse_least = in_order trace.version without classical.tree coarse work (start_of one.least.starts) one.least.certified.least in
     let shorter = no_longer (start_of other.least.starts) (start_of one.least.starts) fine_least coarse_least in
     rw (one.least.told, other.least.told) shorter
 
@@ -64,11 +66,10 @@ trace_is_read trace.Memory e = cc e
 trace_is_read fault e = cc e
 
 -- a line of a model's name, of what is told of two plans, and of the two sides of the bound
-pub measured_further : (version : Version) (kind : List ℕ) (plan list : Totals) (old named planned listed now : List ℕ)
-    → named ≡ old ++ kind → planned ≡ named ++ 44 ∷ join_with_byte 44 (plan_fields version plan)
-    → listed ≡ planned ++ 44 ∷ join_with_byte 44 (plan_fields version list)
+pub measured_further : (releases : Bool) (kind : List ℕ) (plan list : Totals) (old named planned listed now : List ℕ)
+    → named ≡ old ++ kind → planned ≡ named ++ 44 ∷ join_with_byte 44 (fields_where releases plan)
+    → listed ≡ planned ++ 44 ∷ join_with_byte 44 (fields_where releases list)
     → now ≡ listed ++ 44 ∷ (decimal list.left ++ 44 ∷ (decimal list.right ++ 10 ∷ []))
-    → now ≡ old ++ line_text (kind ∷ plan_fields version plan ++ plan_fields version list ++ decimal list.left ∷ decimal list.right ∷ [])
-measured_further V1 kind plan list old named planned listed now one two three four = rw (four, three, two, one) (search (rules, append_assoc))
-measured_further V2 kind plan list old named planned listed now one two three four = rw (four, three, two, one) (search (rules, append_assoc))
-measured_further V3 kind plan list old named planned listed now one two three four = rw (four, three, two, one) (search (rules, append_assoc))
+    → now ≡ old ++ line_text (kind ∷ fields_where releases plan ++ fields_where releases list ++ decimal list.left ∷ decimal list.right ∷ [])
+measured_further false kind plan list old named planned listed now one two three four = rw (four, three, two, one) (search (rules, append_assoc))
+measured_further true kind plan list old named planned listed now one two three four = rw (four, three, two, one) (search (rules, append_assoc))

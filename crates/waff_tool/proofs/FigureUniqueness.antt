@@ -16,7 +16,6 @@ use Rattle.waff_figures.specs.Least.{least_in}
 use Rattle.waff_figures.specs.Sweep.{AreListed, IsListed, IsPlanOf, sweep_lines}
 use Rattle.waff_figures.specs.declared.figures.Figures.{Figures}
 use Rattle.waff_figures.proofs.FigureLaws.{figures_are_one}
-use Rattle.waff_figures.proofs.LeastLaws.{follows_in}
 use Rattle.waff_inputs.specs.Inputs.{Accepts}
 use Rattle.waff_inputs.proofs.SameInput.{same_input}
 use Rattle.waff_tool.specs.Figures.{IsSweepText, TellsSweep}
@@ -33,7 +32,7 @@ listed_same rule instance sound shortest one other p q workers =
     let list = subst (λ k. IsPlanOf rule instance k (start_of q.starts)) (sym same_k) q.list in
     let figures = subst (λ k. AreFigures (Some k) work (least_in (Some k) instance shortest) (start_of q.starts) other) (sym same_k) q.figures_are in
     let same = rule_in_one instance sound rule p.k (start_of p.starts) (start_of q.starts) p.list list in
-    figures_are_one work (Some p.k) (least_in (Some p.k) instance shortest) (start_of p.starts) (start_of q.starts) one other (follows_in instance) same
+    figures_are_one work (Some p.k) (least_in (Some p.k) instance shortest) (start_of p.starts) (start_of q.starts) one other sound.earlier same
     p.figures_are figures
 
 -- there is one for each number of workers, in its place
@@ -69,7 +68,7 @@ sweep_is_one rule workers instance sound text other p q =
     let lists = listed_is_one rule instance sound (length_of work (start_of p.starts)) workers p.listed q.listed p.are_listed
     (subst (λ n. AreListed rule instance n workers q.listed) (sym lengths) q.are_listed) in
     let last = figures_are_one work None (least_in None instance (length_of work (start_of p.starts))) (start_of p.starts) (start_of q.starts)
-    p.unlimited q.unlimited (follows_in instance) same p.are_unlimited
+    p.unlimited q.unlimited sound.earlier same p.are_unlimited
     (subst (λ n. AreFigures None work (least_in None instance n) (start_of q.starts) q.unlimited) (sym lengths) q.are_unlimited) in
     p.lines ∙ ap (λ fs. text_of (sweep_lines fs p.unlimited)) lists ∙ ap (λ f. text_of (sweep_lines q.listed f)) last ∙ sym q.lines
 

@@ -5,7 +5,7 @@ use Rattle.waff_model.specs.Messages.{Arrivals}
 use Rattle.waff_model.specs.Unique.{AtMostOne}
 use Rattle.waff_model.specs.Versions.{has_clients}
 use Rattle.waff_model.specs.declared.message.Version.{Version}
-use Rattle.waff_model.specs.declared.message.Version.TheVariants.{V1, V2, V3}
+use Rattle.waff_model.specs.declared.message.Version.TheVariants.{V1, V2, V3, V4}
 use Rattle.waff_model.specs.Layout.{Space}
 use Rattle.waff_inputs.specs.Known.{newest, trace_of}
 use Rattle.waff_read.proofs.LimitLaws.{layout_is_within_limits, trace_is_within_limits}
@@ -24,7 +24,7 @@ use Rattle.waff_figures.specs.Sweep.{AreListed, IsListed}
 use Rattle.waff_figures.specs.Figures.{AreFigures}
 use Rattle.waff_figures.specs.declared.figures.Figures.{Figures}
 use Rattle.waff_limits.specs.Data.{IsMostOf, ticks_on}
-use Rattle.waff_limits.specs.Laws.{IsUnder, KeepsOrderWhere, PathIsReached, greatest_limit}
+use Rattle.waff_limits.specs.Laws.{AfterIsNotBelow, IsUnder, KeepsOrderWhere, NoListsAddNothing, PathIsReached, greatest_limit}
 use Rattle.waff_limits.specs.Limits.{AreLimits, limits_lines, ticks_of}
 use Rattle.waff_limits.specs.Writes.{ticks_shared}
 use Rattle.waff_limits.proofs.Sharing.{writes_below}
@@ -32,7 +32,7 @@ use Rattle.waff_limits.specs.declared.limits.Limits.{Limits}
 use Rattle.waff_limits.proofs.LimitLaws.{cell_below, is_lower_bound, limits_are_one, most_of_is_one, none_below, not_below, shortest}
 use Rattle.waff_inputs.proofs.SameInput.{same_ok}
 use Rattle.waff_tool.specs.Figures.{IsSweepText}
-use Rattle.waff_tool.specs.LimitsText.{DataBounds, DataBoundsTexts, IsLimitsText, LimitsAreSwept, NoneIsBelowText, OrderIsBetween, OrderIsBetweenInText, OrderIsShortestInText, TellsLimits, TreeIsReachedInText}
+use Rattle.waff_tool.specs.LimitsText.{AfterIsBetween, AfterIsBetweenInText, DataBounds, DataBoundsTexts, IsLimitsText, LimitsAreSwept, NoneIsBelowText, OrderIsBetween, OrderIsBetweenInText, OrderIsShortestInText, TellsLimits, TreeIsReachedInText}
 use Rattle.waff_tool.proofs.CertificateLemmas.{busy_served}
 use Rattle.waff_tool.proofs.FigureUniqueness.{listed_is_one, told_swept}
 use Rattle.waff_tool.proofs.PlanUniqueness.{IsSound, least_in_one}
@@ -48,8 +48,8 @@ limits_text_is_one rule workers spaces instance sound text other p q =
     let lists = listed_is_one rule instance sound (length_of work (start_of p.starts)) workers p.listed q.listed p.are_listed
     (subst (λ n. AreListed rule instance n workers q.listed) (sym lengths) q.are_listed) in
     p.lines
-    ∙ ap (λ l. text_of (limits_lines spaces instance.tree instance.trace.messages workers l p.listed)) limits
-    ∙ ap (λ fs. text_of (limits_lines spaces instance.tree instance.trace.messages workers q.limits fs)) lists
+    ∙ ap (λ l. text_of (limits_lines spaces instance.tree instance.trace workers l p.listed)) limits
+    ∙ ap (λ fs. text_of (limits_lines spaces instance.tree instance.trace workers q.limits fs)) lists
     ∙ sym q.lines
 
 -- what a text tells of
@@ -106,6 +106,7 @@ module _ (rule : Rule) (hierarchy_file trace_file workers text : List ℕ) (told
   keeps_by V1 start without obeys = obeys
   keeps_by V2 start without obeys = obeys
   keeps_by V3 start without obeys = absurd (cc)
+  keeps_by V4 start without obeys = absurd (cc)
 
   listed_below : (figures : Figures) → has_clients instance.trace.version ≡ false
       → IsListed rule instance (length_of (work_of_instance instance) (start_of told.told.starts)) figures → told.told.limits.order ≤ figures.length
@@ -125,6 +126,19 @@ module _ (rule : Rule) (hierarchy_file trace_file workers text : List ℕ) (told
     above = not_below instance told.accepts.layout under (start_of told.told.starts) told.told.limits told.told.least told.told.are_limits;
     below = λ without i d inside. listed_below _ without (told.told.are_listed.each i d inside);
   }
+
+-- and so are what lists need
+pub after_is_between : ((instance : Instance) → AfterIsNotBelow instance) → ((instance : Instance) → NoListsAddNothing instance)
+    → (rule : Rule) (hierarchy_file trace_file : List ℕ) → AfterIsBetweenInText rule hierarchy_file trace_file
+after_is_between no_less nothing rule hierarchy_file trace_file workers text told =
+    let limits = told.told.limits in
+    let start = start_of told.told.starts in
+    let most = (between rule hierarchy_file trace_file workers text told).above in
+    record {
+      above = no_less told.instance start limits told.told.are_limits;
+      below = omega (arith, most);
+      alone = nothing told.instance start limits told.told.are_limits;
+    }
 
 pub none_is_below_text : (rule : Rule) (hierarchy_file trace_file : List ℕ) → NoneIsBelowText rule hierarchy_file trace_file
 none_is_below_text rule hierarchy_file trace_file workers text limit other told known obeys =

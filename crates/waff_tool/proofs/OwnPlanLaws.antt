@@ -14,9 +14,9 @@ use Rattle.waff_model.proofs.TraceLemmas.{few_messages}
 use Rattle.waff_model.specs.Names.{is_name}
 use Rattle.waff_model.specs.Tree.{IsTree, Node, name_of}
 use Rattle.waff_model.specs.declared.limits.TheConstants.{MAX_COST, MAX_MESSAGES, MAX_RELEASE, MAX_THINK, MAX_TICK, MAX_WORKERS}
-use Rattle.waff_model.specs.Versions.{has_clients}
+use Rattle.waff_model.specs.Versions.{has_clients, has_releases}
 use Rattle.waff_model.specs.declared.message.Version.{Version}
-use Rattle.waff_model.specs.declared.message.Version.TheVariants.{V1, V2, V3}
+use Rattle.waff_model.specs.declared.message.Version.TheVariants.{V1}
 use Rattle.waff_read.proofs.FaultLaws.{trace_is_exact}
 use Rattle.waff_read.proofs.LimitLaws.{layout_is_within_limits, trace_is_within_limits}
 use Rattle.waff_read.proofs.NamedLaws.{affinities_are_named}
@@ -26,7 +26,7 @@ use Rattle.waff_assign.proofs.Knowing.{affinity_known}
 use Rattle.waff_plan.specs.Bound.{IsWorkers, left_side, right_side}
 use Rattle.waff_plan.specs.Chain.{IsChain, IsListed, chain_cost, chain_release, gaps_after}
 use Rattle.waff_plan.specs.Instances.{served_first, started_first, work_of_instance}
-use Rattle.waff_plan.specs.Obeys.{AwaitsNone, IsForward, Obeys}
+use Rattle.waff_plan.specs.Obeys.{AwaitsEarlier, AwaitsNone, IsForward, Obeys}
 use Rattle.waff_plan.specs.Timetable.{timings_of, work_of_messages}
 use Rattle.waff_plan.specs.Timing.{start_of}
 use Rattle.waff_plan.specs.Totals.{totals_of}
@@ -50,7 +50,7 @@ use Rattle.waff_plan_text.specs.Rows.{IsWithinLimit}
 use Rattle.waff_plan_text.specs.Lines.{text_of}
 use Rattle.waff_plan_text.specs.Spelling.{no_worker, plan_lines, seat_of}
 use Rattle.waff_plan_text.proofs.WrittenPlans.{written_is_read}
-use Rattle.waff_check.specs.OwnPlans.{IsFoundShort, claim_told}
+use Rattle.waff_check.specs.OwnPlans.{IsFoundShortWhere, claim_told}
 use Rattle.waff_check.specs.Promises.{AreOneAtATime}
 use Rattle.waff_check.specs.Verdicts.{Claim, IsClaim, IsVerdict, claim_of}
 use Rattle.waff_check.specs.declared.verdict.Verdict.{Verdict}
@@ -62,7 +62,7 @@ use Rattle.waff_inputs.specs.Known.{newest}
 use Rattle.waff_inputs.proofs.SameInput.{layout_tree}
 use Rattle.waff_tool.specs.CheckText.{AcceptsPlan, IsCheckText}
 use Rattle.waff_tool.specs.PlanText.{TellsLeastPlan, TellsWorkerPlan}
-use Rattle.waff_tool.specs.OwnPlans.{OwnPlanPasses, OwnWorkerPlanPasses, PassesShort}
+use Rattle.waff_tool.specs.OwnPlans.{OwnPlanPasses, OwnWorkerPlanPasses, PassesShortWhere}
 
 -- work within the limits of traces
 record IsModest (version : Version) (work : Work) : Type 0 where
@@ -73,12 +73,6 @@ record IsModest (version : Version) (work : Work) : Type 0 where
   gap : (i m : ℕ) → IsNumber work m → gap_of work i m ≤ MAX_THINK
   alone : version ≡ V1 → AwaitsNone work
   no_release : version ≡ V1 → (m : ℕ) → IsNumber work m → work.floor m ≡ 0
-
--- the first version is not the third
-first_is_early : (version : Version) → version ≡ V1 → version ≢ V3
-first_is_early version first third =
-    let equal : V1 ≡ V3 = sym first ∙ third in
-    cc
 
 modest : (trace : Arrivals) → IsTrace trace → IsModest trace.version (work_of_messages trace.messages)
 modest trace is_trace =
@@ -96,8 +90,8 @@ modest trace is_trace =
       no_release = λ first m number.
           let among : IsAmongFirst (length messages) m = record { from = number.from; to = omega (arith, number.to, count) } in
           let message = message_at trace is_trace m among in
-          let early = first_is_early trace.version first in
-          floor_alone messages m among (message.no_client early) (message.no_think early) ∙ message.no_release first;
+          let alone = ap has_clients first in
+          floor_alone messages m among (message.no_client alone) (message.no_think alone) ∙ message.no_release (ap has_releases first);
     }
 
 -- sums of costs within the limit
@@ -318,18 +312,20 @@ lines_in instance workers start worker chain =
     plan_lines instance.trace.version instance.tree instance.assigned (work_of_instance instance) workers start worker chain
 
 -- a verdict as good as can be is one of those that pass
-short_passes : (version : Version) (claim : Claim) (hierarchy_file trace_file text : List ℕ)
-    → ((v : Verdict) → IsVerdict claim v → IsCheckText hierarchy_file trace_file text v) → IsFoundShort version claim
-    → PassesShort version hierarchy_file trace_file text
-short_passes V1 claim hierarchy_file trace_file text prints short = prints verdict.Shortest short
-short_passes V2 claim hierarchy_file trace_file text prints short = prints verdict.Shortest short
-short_passes V3 claim hierarchy_file trace_file text prints (inl short) = inl (prints verdict.Shortest short)
-short_passes V3 claim hierarchy_file trace_file text prints (inr tight) = inr (prints verdict.Tight tight)
+short_passes : (clients : Bool) (claim : Claim) (hierarchy_file trace_file text : List ℕ)
+    → ((v : Verdict) → IsVerdict claim v → IsCheckText hierarchy_file trace_file text v) → IsFoundShortWhere clients claim
+    → PassesShortWhere clients hierarchy_file trace_file text
+short_passes false claim hierarchy_file trace_file text prints short = prints verdict.Shortest short
+short_passes true claim hierarchy_file trace_file text prints (inl short) = inl (prints verdict.Shortest short)
+short_passes true claim hierarchy_file trace_file text prints (inr tight) = inr (prints verdict.Tight tight)
 
 -- what was accepted
 module _ (hierarchy_file trace_file : List ℕ) (instance : Instance) (accepts : inputs.Accepts hierarchy_file trace_file instance) where
   is_trace : IsTrace instance.trace
   is_trace = trace_is_within_limits newest accepts.layout.spaces trace_file instance.trace accepts.is_trace
+
+  pub earlier : AwaitsEarlier (work_of_instance instance)
+  earlier = (are_timings instance.trace is_trace).earlier
 
   within_limits : IsModest instance.trace.version (work_of_instance instance)
   within_limits = modest instance.trace is_trace
@@ -409,7 +405,7 @@ module _ (hierarchy_file trace_file : List ℕ) (instance : Instance) (accepts :
         given = plan;
         accepts = read;
         verdict = is;
-        promises = promises claim is_claim runs tree given v is;
+        promises = promises claim is_claim runs earlier tree given v is;
       }
 
   -- that of a plan without workers
@@ -476,10 +472,10 @@ own_plan_passes hierarchy_file trace_file text p =
     let start = start_of told.starts in
     let obeys = told.certified.least.obeys in
     let is_chain = told.certified.is_chain in
-    short_passes i.trace.version (claim_told i None start no_worker told.chain) hierarchy_file trace_file text
+    short_passes (has_clients i.trace.version) (claim_told i None start no_worker told.chain) hierarchy_file trace_file text
     (checked hierarchy_file trace_file i p.accepts text None start no_worker told.chain obeys is_chain
     (own_plan_fits hierarchy_file trace_file i p.accepts text told) (own_plan_read hierarchy_file trace_file i p.accepts text told))
-    (own_plan_is_shortest i start told.chain p.accepts.assignment.count obeys is_chain told.certified.as_long)
+    (own_plan_is_shortest i start told.chain p.accepts.assignment.count (earlier hierarchy_file trace_file i p.accepts) obeys is_chain told.certified.as_long)
 
 pub own_worker_plan_passes : (rule : Rule) (hierarchy_file trace_file : List ℕ) (k : ℕ) (text : List ℕ) → OwnWorkerPlanPasses rule hierarchy_file trace_file k text
 own_worker_plan_passes rule hierarchy_file trace_file k text workers p =
@@ -490,8 +486,8 @@ own_worker_plan_passes rule hierarchy_file trace_file k text workers p =
     let is_chain = told.bounded.is_chain in
     let prints = checked hierarchy_file trace_file i p.accepts text (Some k) start (seat_of told.workers) told.chain obeys is_chain
     (own_worker_plan_fits hierarchy_file trace_file i p.accepts rule k text workers told) (own_worker_plan_read hierarchy_file trace_file i p.accepts rule k text workers told) in
-    elim (own_plan_is_within_bound i k start (seat_of told.workers) told.chain p.accepts.assignment.count
+    elim (own_plan_is_within_bound i k start (seat_of told.workers) told.chain p.accepts.assignment.count (earlier hierarchy_file trace_file i p.accepts)
     (record { obeys = obeys; within = told.bounded.at_once }) (crew_of hierarchy_file trace_file i p.accepts rule k text told) is_chain told.bounded.bound) [
-      | inl short ↦ inl (short_passes i.trace.version (claim_told i (Some k) start (seat_of told.workers) told.chain) hierarchy_file trace_file text prints short)
+      | inl short ↦ inl (short_passes (has_clients i.trace.version) (claim_told i (Some k) start (seat_of told.workers) told.chain) hierarchy_file trace_file text prints short)
       | inr within ↦ inr (prints verdict.WithinBound within)
     ]

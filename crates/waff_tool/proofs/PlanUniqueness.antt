@@ -2,7 +2,7 @@
 use Rattle.std.proofs.Common.{◌≡◌, ℕ, inl, inr, List, [], ◌∷◌, length, sym, ◌∙◌}
 use Rattle.waff_model.specs.Tree.{Node}
 use Rattle.waff_model.specs.declared.message.Version.{Version}
-use Rattle.waff_model.specs.declared.message.Version.TheVariants.{V1, V2, V3}
+use Rattle.waff_model.specs.declared.message.Version.TheVariants.{V1, V2, V3, V4}
 use Rattle.waff_assign.specs.Instance.{Instance}
 use Rattle.waff_assign.specs.Order.{IsOrdered, Relation}
 use Rattle.waff_plan.specs.Chain.{IsPrinted, LeadsToEnd}
@@ -22,13 +22,13 @@ use Rattle.waff_list.proofs.IssuePlans.{plan_by_issue_is_one}
 use Rattle.waff_list.proofs.RuleLemmas.{rule_plan_is_one}
 use Rattle.waff_list.proofs.TraceWork.{count_is}
 use Rattle.waff_figures.specs.Sweep.{IsPlanOf}
-use Rattle.waff_figures.proofs.LeastLaws.{follows_in}
 use Rattle.waff_figures.proofs.WaitUnique.{started_same}
 
--- what holds of the instances of files: each message has an affinity, and each runs
+-- what holds of the instances of files: each message has an affinity, each runs, and each awaits earlier ones
 pub record IsSound (instance : Instance) : Type 0 where
   pub same : length instance.assigned ≡ length instance.trace.messages
   pub runs : EachRuns (work_of_instance instance)
+  pub earlier : AwaitsEarlier (work_of_instance instance)
 
 -- a printed chain by a relation that tells the same
 module _ (before again : Relation) (work : Work) (start : ℕ → ℕ) (to : (i j : ℕ) → before i j → again i j) (from : (i j : ℕ) → again i j → before i j) where
@@ -62,6 +62,7 @@ forward_by : (version : Version) (tree : List Node) (assigned : List ℕ) (work 
 forward_by V1 tree assigned work count follows runs start issued = IsOrdered_forward tree assigned work count follows
 forward_by V2 tree assigned work count follows runs start issued = IsOrdered_forward tree assigned work count follows
 forward_by V3 tree assigned work count follows runs start issued = IsStartedBefore_forward tree assigned work count runs start issued follows
+forward_by V4 tree assigned work count follows runs start issued = IsStartedBefore_forward tree assigned work count runs start issued follows
 
 -- the plan by a rule
 rule_by : (version : Version) (rule : Rule) (tree : List Node) (assigned : List ℕ) (work : Work) → length assigned ≡ work.count → AwaitsEarlier work
@@ -72,6 +73,8 @@ rule_by V1 rule tree assigned work count follows runs k start other one two =
 rule_by V2 rule tree assigned work count follows runs k start other one two =
     rule_plan_is_one (IsOrdered tree assigned) work (IsOrdered_forward tree assigned work count follows) runs rule k start other one two
 rule_by V3 rule tree assigned work count follows runs k start other one two =
+    plan_by_issue_is_one tree assigned work follows runs rule k start other one two
+rule_by V4 rule tree assigned work count follows runs k start other one two =
     plan_by_issue_is_one tree assigned work follows runs rule k start other one two
 
 module _ (instance : Instance) (sound : IsSound instance) where
@@ -84,18 +87,18 @@ module _ (instance : Instance) (sound : IsSound instance) where
   pub least_in_one : (start other : ℕ → ℕ) → IsLeast (served_first instance start) work start → IsLeast (served_first instance other) work other
       → AreSame work start other
   least_in_one start other one two =
-      least_served_is_one instance.trace.version instance.tree instance.assigned work (follows_in instance) start other one two
+      least_served_is_one instance.trace.version instance.tree instance.assigned work sound.earlier start other one two
 
   pub rule_in_one : (rule : Rule) (k : ℕ) (start other : ℕ → ℕ) → IsPlanOf rule instance k start → IsPlanOf rule instance k other → AreSame work start other
   rule_in_one rule k start other one two =
-      rule_by instance.trace.version rule instance.tree instance.assigned work count_in (follows_in instance) sound.runs k start other one two
+      rule_by instance.trace.version rule instance.tree instance.assigned work count_in sound.earlier sound.runs k start other one two
 
   pub chain_in_one : (start other : ℕ → ℕ) (chain other_chain : List ℕ) → StartsIssued work start → AreSame work start other
       → IsPrinted (started_first instance start) work start chain → IsPrinted (started_first instance other) work other other_chain → chain ≡ other_chain
   chain_in_one start other chain other_chain issued same one two =
       let version = instance.trace.version in
       let back : AreSame work other start = λ m number. sym (same m number) in
-      let forward = forward_by version instance.tree instance.assigned work count_in (follows_in instance) sound.runs start issued in
+      let forward = forward_by version instance.tree instance.assigned work count_in sound.earlier sound.runs start issued in
       let again = printed_again (started_first instance other) (started_first instance start) work other
       (started_same version instance.tree instance.assigned work count_in other start back)
       (started_same version instance.tree instance.assigned work count_in start other same) other_chain two in

@@ -25,7 +25,6 @@ use Rattle.waff_figures.specs.Least.{least_in}
 use Rattle.waff_figures.specs.Sweep.{IsListed, IsPlanOf}
 use Rattle.waff_figures.specs.declared.figures.Figures.{Figures}
 use Rattle.waff_figures.proofs.FigureLaws.{figures_are_one}
-use Rattle.waff_figures.proofs.LeastLaws.{follows_in}
 use Rattle.waff_tool.specs.CheckText.{AcceptsPlan}
 use Rattle.waff_tool.specs.Rate.{AreRated, IsRateText, IsRated, OwnPlanIsSwept, OwnWorkerPlanIsSwept, RateTextIsOne, RatedIsChecked, rated_lines}
 use Rattle.waff_tool.proofs.CheckUniqueness.{check_text_is_one, same_given}
@@ -43,7 +42,7 @@ rated_same instance sound limit start other one another starts same p least q =
     let work = work_of_instance instance in
     let leasts = least_in_one instance sound (start_of p.starts) (start_of starts) p.least least in
     let lengths = same_length work (start_of p.starts) (start_of starts) leasts in
-    figures_are_one work limit (least_in limit instance (length_of work (start_of starts))) start other one another (follows_in instance) same
+    figures_are_one work limit (least_in limit instance (length_of work (start_of starts))) start other one another sound.earlier same
     (subst (λ n. AreFigures limit work (least_in limit instance n) start one) lengths p.are_figures) q
 
 pub rate_text_is_one : (hierarchy_file trace_file plan_file : List ℕ) → RateTextIsOne hierarchy_file trace_file plan_file

@@ -14,6 +14,7 @@ use Rattle.waff_assign.specs.Instance.{Instance}
 use Rattle.waff_assign.specs.Order.{Refines}
 use Rattle.waff_assign.proofs.Uniqueness.{assignment_is_one}
 use Rattle.waff_plan.specs.Instances.{work_of_instance}
+use Rattle.waff_plan.specs.Obeys.{AwaitsEarlier}
 use Rattle.waff_plan.specs.Timetable.{work_of_messages}
 use Rattle.waff_plan.specs.Timing.{start_of}
 use Rattle.waff_plan.specs.Totals.{totals_of}
@@ -27,6 +28,7 @@ use Rattle.waff_list.proofs.SeatsUniqueness.{seats_are_one}
 use Rattle.waff_list.proofs.TraceWork.{trace_is_small}
 use Rattle.waff_plan_text.specs.Lines.{text_of}
 use Rattle.waff_plan_text.specs.Spelling.{no_worker, seat_of, unlimited_lines, worker_lines}
+use Rattle.waff_plan.proofs.TimingLemmas.{are_timings}
 use Rattle.waff_plan.proofs.Uniqueness.{totals_same}
 use Rattle.waff_inputs.specs.Inputs.{Accepts, instance_under}
 use Rattle.waff_inputs.proofs.SameInput.{layout_tree, same_ok, same_trace}
@@ -43,10 +45,18 @@ trace_runs layout file trace read =
     let small = trace_is_small trace (trace_is_within_limits newest layout.spaces file trace read) in
     small.some_cost
 
+-- and awaits earlier ones
+pub trace_awaits : (layout : Hierarchy) (file : List ℕ) (trace : Arrivals) → trace_of layout.spaces file ≡ Ok trace → AwaitsEarlier (work_of_messages trace.messages)
+trace_awaits layout file trace read = (are_timings trace (trace_is_within_limits newest layout.spaces file trace read)).earlier
+
 -- an instance that is accepted
 module _ (hierarchy_file trace_file : List ℕ) (instance : Instance) (accepts : Accepts hierarchy_file trace_file instance) where
   pub is_sound : IsSound instance
-  is_sound = record { same = accepts.assignment.count; runs = trace_runs accepts.layout trace_file instance.trace accepts.is_trace }
+  is_sound = record {
+    same = accepts.assignment.count;
+    runs = trace_runs accepts.layout trace_file instance.trace accepts.is_trace;
+    earlier = trace_awaits accepts.layout trace_file instance.trace accepts.is_trace;
+  }
 
 -- the plan without workers, and by a rule for k workers
 module _ (instance : Instance) (sound : IsSound instance) where
@@ -108,15 +118,15 @@ measured_is_one layout assigned trace k sound one other p q =
 
 -- the comparison
 compared_is_one : (classical hierarchical : Hierarchy) (trace : Arrivals) (k : ℕ) (text other : List ℕ) → IsTree classical.tree → IsTree hierarchical.tree
-    → EachRuns (work_of_messages trace.messages) → IsCompared classical hierarchical trace k text → IsCompared classical hierarchical trace k other → text ≡ other
-compared_is_one classical hierarchical trace k text other tree fine_tree runs p q =
+    → EachRuns (work_of_messages trace.messages) → AwaitsEarlier (work_of_messages trace.messages) → IsCompared classical hierarchical trace k text → IsCompared classical hierarchical trace k other → text ≡ other
+compared_is_one classical hierarchical trace k text other tree fine_tree runs earlier p q =
     let work = work_of_messages trace.messages in
     let coarse = assignment_is_one classical trace.messages tree p.coarse q.coarse p.coarse_assignment q.coarse_assignment in
     let fine = assignment_is_one hierarchical trace.messages fine_tree p.fine q.fine p.fine_assignment q.fine_assignment in
-    let of_classical = measured_is_one classical p.coarse trace k (record { same = p.coarse_assignment.count; runs = runs })
+    let of_classical = measured_is_one classical p.coarse trace k (record { same = p.coarse_assignment.count; runs = runs; earlier = earlier })
     p.of_classical q.of_classical p.classical_measured
     (subst (λ a. IsMeasured classical a trace k q.of_classical) (sym coarse) q.classical_measured) in
-    let of_hierarchical = measured_is_one hierarchical p.fine trace k (record { same = p.fine_assignment.count; runs = runs })
+    let of_hierarchical = measured_is_one hierarchical p.fine trace k (record { same = p.fine_assignment.count; runs = runs; earlier = earlier })
     p.of_hierarchical q.of_hierarchical p.hierarchical_measured
     (subst (λ a. IsMeasured hierarchical a trace k q.of_hierarchical) (sym fine) q.hierarchical_measured) in
     let told : IsTrue q.refined ↔ Refines hierarchical.tree p.fine classical.tree p.coarse =
@@ -153,4 +163,4 @@ compare_text_is_one first second trace_file k text other p q =
     (subst (λ l. IsCompared q.classical l p.trace k other) (sym models.1)
     (subst (λ t. IsCompared q.classical q.hierarchical t k other) (sym trace) q.compared)) in
     compared_is_one p.classical p.hierarchical p.trace k text other trees.0 trees.1
-    (trace_runs p.classical trace_file p.trace p.is_trace) p.compared compared
+    (trace_runs p.classical trace_file p.trace p.is_trace) (trace_awaits p.classical trace_file p.trace p.is_trace) p.compared compared

@@ -27,7 +27,6 @@ use Rattle.waff_figures.specs.declared.grouping.Grouping.{Grouping}
 use Rattle.waff_figures.specs.declared.wait_rows.Row.{Row}
 use Rattle.waff_figures.specs.declared.waits.Wait.{Wait}
 use Rattle.waff_figures.proofs.FigureLaws.{figures_moved}
-use Rattle.waff_figures.proofs.LeastLaws.{follows_in}
 use Rattle.waff_figures.proofs.WaitUnique.{alike_laws, rows_are_one}
 use Rattle.waff_tool.specs.WaitsText.{IsPlanFor, TellsWaits, WaitsAreSwept}
 use Rattle.waff_tool.proofs.FigureUniqueness.{told_swept}
@@ -89,7 +88,7 @@ waits_are_one rule workers grouping instance sound text other p q =
     let names = message_names instance.trace.messages in
     let plans = same_plan rule instance sound workers (start_of p.starts) (start_of q.starts) p.planned q.planned in
     let rows = rows_are_one instance.trace.version instance.tree instance.assigned work (are_alike grouping instance.assigned names) (start_of p.starts)
-    (start_of q.starts) p.waits q.waits p.rows q.rows (count_in instance sound) (follows_in instance) plans p.are_waits q.are_waits p.are_rows q.are_rows in
+    (start_of q.starts) p.waits q.waits p.rows q.rows (count_in instance sound) sound.earlier plans p.are_waits q.are_waits p.are_rows q.are_rows in
     p.lines ∙ ap (λ rs. text_of (waits_lines grouping instance.tree instance.assigned names rs)) rows ∙ sym q.lines
 
 -- the lines of a sweep for as many workers are of the same plan
@@ -108,7 +107,7 @@ module _ (rule : Rule) (instance : Instance) (sound : IsSound instance) (shortes
       let plan = subst (λ w. IsPlanFor rule instance w start) number planned in
       let same = rule_in_one instance sound rule listed.k start (start_of listed.starts) plan listed.list in
       let bound = least_in (Some listed.k) instance shortest in
-      (Some listed.k, bound, figures_moved work (follows_in instance) start (start_of listed.starts) same (Some listed.k) bound line listed.figures_are)
+      (Some listed.k, bound, figures_moved work sound.earlier start (start_of listed.starts) same (Some listed.k) bound line listed.figures_are)
 
   of_unlimited : (starts : List ℕ) → IsLeast (served_first instance (start_of starts)) work (start_of starts)
       → AreFigures None work (least_in None instance shortest) (start_of starts) line → line.workers ≡ limit → IsOfPlan
@@ -117,7 +116,7 @@ module _ (rule : Rule) (instance : Instance) (sound : IsSound instance) (shortes
       let plan = subst (λ w. IsPlanFor rule instance w start) number planned in
       let same = least_in_one instance sound start (start_of starts) plan least in
       let bound = least_in None instance shortest in
-      (None, bound, figures_moved work (follows_in instance) start (start_of starts) same None bound line figures)
+      (None, bound, figures_moved work sound.earlier start (start_of starts) same None bound line figures)
 
   pub line_of_plan : (workers starts : List ℕ) (listed : List Figures) (unlimited : Figures) → IsLeast (served_first instance (start_of starts)) work (start_of starts)
       → AreListed rule instance shortest workers listed → AreFigures None work (least_in None instance shortest) (start_of starts) unlimited

@@ -21,7 +21,6 @@ use Rattle.waff_figures.specs.declared.grouping.Columns.TheVariants.{Costs, Figu
 use Rattle.waff_figures.specs.declared.grouping.Label.{Label}
 use Rattle.waff_figures.specs.declared.parts.PartFigures.{PartFigures}
 use Rattle.waff_figures.proofs.AddingUp.{cost_below_is_one}
-use Rattle.waff_figures.proofs.LeastLaws.{follows_in}
 use Rattle.waff_figures.proofs.PartLemmas.{parts_are_one}
 use Rattle.waff_figures.proofs.RowLemmas.{map_range_same}
 use Rattle.waff_tool.specs.Certificates.{IsChained}
@@ -69,7 +68,7 @@ module _ (instance : Instance) (sound : IsSound instance) where
     by_affinity Figures text again p q =
         let tree = instance.tree in
         let assigned = instance.assigned in
-        let parts = parts_are_one work (follows_in instance) start other same Figures (runs_in assigned) (range_with_len 0 (length tree)) p.parts q.parts p.are_parts q.are_parts in
+        let parts = parts_are_one work sound.earlier start other same Figures (runs_in assigned) (range_with_len 0 (length tree)) p.parts q.parts p.are_parts q.are_parts in
         let row = λ (a cost l : ℕ) (ps : List PartFigures).
         tally_row (name_of tree a) (parent_field tree (parent_of tree a)) cost (tally_of work chain (runs_in assigned a))
         ++ part_fields l (tally_of work chain (runs_in assigned a)) (get_or ps a no_part) in
@@ -86,7 +85,7 @@ module _ (instance : Instance) (sound : IsSound instance) where
     by_label label Figures text again p q =
         let labels = labels_of label instance.trace.messages in
         let firsts = first_messages labels in
-        let parts = parts_are_one work (follows_in instance) start other same Figures (has_label labels) firsts p.parts q.parts p.are_parts q.are_parts in
+        let parts = parts_are_one work sound.earlier start other same Figures (has_label labels) firsts p.parts q.parts p.are_parts q.are_parts in
         let text_for : ℕ → List PartFigures → List ℕ = λ l ps. text_of ((label_header label ++ part_names) ∷ map (λ (place : ℕ).
         label_row labels work chain (get_or firsts place 0)
         ++ part_fields l (tally_of work chain (has_label labels (get_or firsts place 0))) (get_or ps place no_part)) (range_with_len 0 (length firsts))) in

@@ -16,7 +16,6 @@ use Rattle.waff_figures.specs.Figures.{latency_of}
 use Rattle.waff_figures.specs.Worst.{AreWorst}
 use Rattle.waff_figures.specs.WorstText.{worst_lines}
 use Rattle.waff_figures.specs.declared.figures.Figures.{Figures}
-use Rattle.waff_figures.proofs.LeastLaws.{follows_in}
 use Rattle.waff_figures.proofs.WorstLaws.{first_is_greatest, worst_lines_are_one}
 use Rattle.waff_tool.specs.WaitsText.{IsPlanFor}
 use Rattle.waff_tool.specs.WorstText.{TellsWorst, WorstIsSwept}
@@ -54,7 +53,7 @@ pub worst_are_one : (rule : Rule) (workers : Option ℕ) (most : ℕ) (instance 
 worst_are_one rule workers most instance sound text other p q =
     let plans = same_plan rule instance sound workers (start_of p.starts) (start_of q.starts) p.planned q.planned in
     let lines = worst_lines_are_one instance.trace.version instance.tree instance.assigned instance.trace.messages (work_of_instance instance)
-    (count_in instance sound) (follows_in instance) (start_of p.starts) (start_of q.starts) plans most p.waited q.waited p.worst q.worst
+    (count_in instance sound) sound.earlier (start_of p.starts) (start_of q.starts) plans most p.waited q.waited p.worst q.worst
     p.are_waited q.are_waited p.are_worst q.are_worst in
     p.lines ∙ ap text_of lines ∙ sym q.lines
 

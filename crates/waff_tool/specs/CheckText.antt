@@ -30,6 +30,8 @@ verdict_fields verdict.WithinBound = codes "withinbound" ∷ []
 verdict_fields (verdict.Early message) = codes "early" ∷ decimal message ∷ []
 verdict_fields (verdict.Client message) = codes "client" ∷ decimal message ∷ []
 verdict_fields verdict.Tight = codes "tight" ∷ []
+verdict_fields (verdict.After message awaited) =
+    codes "after" ∷ decimal message ∷ decimal awaited ∷ []
 
 -- the text of a verdict is its line alone
 abbrev pub verdict_text : Verdict → List ℕ

@@ -1,15 +1,15 @@
 -- What is printed where a classical and a hierarchical hierarchy are compared on one trace.
-use Rattle.std.specs.Prelude.{◌≡◌, ◌≢◌, ℕ, ◌≤◌, ◌⊎◌, ◌↔◌, Bool, true, false, IsTrue, List, [], ◌∷◌, ◌++◌}
+use Rattle.std.specs.Prelude.{◌≡◌, ℕ, ◌≤◌, ◌⊎◌, ◌↔◌, Bool, true, false, IsTrue, List, [], ◌∷◌, ◌++◌}
 use Rattle.std.specs.Prelude.{◌<◌, ◌==◌, ◌&&◌, All, length, Some, None, Result, Ok, Err, codes, decimal}
 use Rattle.std.specs.Prelude.{if◌then◌else◌}
 use Rattle.std.specs.List.{list_all, zip}
 use Rattle.std.specs.Str.{bytes_eq}
 use Rattle.waff_model.specs.Layout.{Hierarchy, SameSpaces}
 use Rattle.waff_model.specs.Messages.{Arrivals}
+use Rattle.waff_model.specs.Versions.{has_clients, has_releases}
 use Rattle.waff_model.specs.declared.kind.Kind.{Kind}
 use Rattle.waff_model.specs.declared.kind.Kind.TheVariants as kind
 use Rattle.waff_model.specs.declared.message.Version.{Version}
-use Rattle.waff_model.specs.declared.message.Version.TheVariants.{V1, V2, V3}
 use Rattle.waff_read.specs.Hierarchies.{hierarchy_of}
 use Rattle.waff_inputs.specs.Known.{trace_of}
 use Rattle.waff_assign.specs.Lowest.{IsAssignment}
@@ -56,26 +56,27 @@ abbrev pub kind_field : Kind → List ℕ
 kind_field kind.Classical = codes "classical"
 kind_field kind.Hierarchical = codes "hierarchical"
 
--- what the lines of the hierarchies tell
-abbrev pub measures_header : Version → List (List ℕ)
-measures_header V1 =
+-- what the lines of the hierarchies tell, of a trace without releases or with them
+abbrev pub header_where : Bool → List (List ℕ)
+header_where false =
     codes "model" ∷ codes "length" ∷ codes "chain"
     ∷ codes "list" ∷ codes "listchain" ∷ codes "left" ∷ codes "right" ∷ []
-measures_header V2 =
-    codes "model" ∷ codes "length" ∷ codes "release"
-    ∷ codes "chain" ∷ codes "list" ∷ codes "listrelease" ∷ codes "listchain"
-    ∷ codes "left" ∷ codes "right" ∷ []
-measures_header V3 =
+header_where true =
     codes "model" ∷ codes "length" ∷ codes "release"
     ∷ codes "chain" ∷ codes "list" ∷ codes "listrelease" ∷ codes "listchain"
     ∷ codes "left" ∷ codes "right" ∷ []
 
--- what is told of a plan: its length, and the release and the cost of its printed chain; a trace of
--- the first version has no releases
+abbrev pub measures_header : Version → List (List ℕ)
+measures_header version = header_where (has_releases version)
+
+-- what is told of a plan: its length, and the release, where the trace has releases, and the cost of its
+-- printed chain
+abbrev pub fields_where : Bool → Totals → List (List ℕ)
+fields_where false plan = decimal plan.length ∷ decimal plan.cost ∷ []
+fields_where true plan = decimal plan.length ∷ decimal plan.release ∷ decimal plan.cost ∷ []
+
 abbrev pub plan_fields : Version → Totals → List (List ℕ)
-plan_fields V1 plan = decimal plan.length ∷ decimal plan.cost ∷ []
-plan_fields V2 plan = decimal plan.length ∷ decimal plan.release ∷ decimal plan.cost ∷ []
-plan_fields V3 plan = decimal plan.length ∷ decimal plan.release ∷ decimal plan.cost ∷ []
+plan_fields version plan = fields_where (has_releases version) plan
 
 -- the line of a hierarchy
 abbrev pub measured_line : Version → Measured → List (List ℕ)
@@ -109,7 +110,7 @@ pub record AreAssignedAndMeasured (layout : Hierarchy) (trace : Arrivals) (k : �
 
 -- the text of the comparison of a classical and a hierarchical hierarchy on a trace: it tells
 -- whether the hierarchical one refines the classical one, and where it does its least plan is no
--- longer, but for the third version, whose plans serve in an order of their own
+-- longer, but for a trace with clients, whose plans serve in an order of their own
 pub record IsCompared (classical hierarchical : Hierarchy)
     (trace : Arrivals) (k : ℕ) (text : List ℕ) : Type 0 where
   pub coarse : List ℕ
@@ -122,7 +123,7 @@ pub record IsCompared (classical hierarchical : Hierarchy)
   pub classical_measured : IsMeasured classical coarse trace k of_classical
   pub hierarchical_measured : IsMeasured hierarchical fine trace k of_hierarchical
   pub told : IsTrue refined ↔ Refines hierarchical.tree fine classical.tree coarse
-  pub no_longer : trace.version ≢ V3 → IsTrue refined
+  pub no_longer : has_clients trace.version ≡ false → IsTrue refined
       → of_hierarchical.unlimited.length ≤ of_classical.unlimited.length
   pub lines : text ≡ text_of (compare_lines trace.version k
       (total_of (work_of_messages trace.messages)) of_classical of_hierarchical refined)

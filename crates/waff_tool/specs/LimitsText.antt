@@ -3,6 +3,7 @@ use Rattle.std.specs.Prelude.{◌≡◌, ℕ, ◌≤◌, true, false, List, [], 
 use Rattle.waff_model.specs.Layout.{SameSpaces, Space}
 use Rattle.waff_model.specs.Messages.{sizes_of}
 use Rattle.waff_model.specs.Versions.{has_clients}
+use Rattle.waff_model.specs.declared.message.Message.{Message}
 use Rattle.waff_model.specs.declared.message.Version.{Version}
 use Rattle.waff_assign.specs.Instance.{Instance}
 use Rattle.waff_plan.specs.Bound.{IsWorkers}
@@ -21,8 +22,8 @@ use Rattle.waff_limits.specs.declared.limits.Limits.{Limits}
 use Rattle.waff_inputs.specs.Inputs.{IsToldUnder}
 use Rattle.waff_tool.specs.Figures.{IsSweepText}
 
--- the text of what limits a trace over these spaces: what each of these numbers of workers, the clients, the cells, the tree and the
--- order make of the length of a plan, and the length of the plan by this rule for each number of workers
+-- the text of what limits a trace over these spaces: what each of these numbers of workers, the clients, the lists, the cells, the tree
+-- and the order make of the length of a plan, and the length of the plan by this rule for each number of workers
 pub record TellsLimits (rule : Rule) (workers : List ℕ) (spaces : List Space) (instance : Instance) (text : List ℕ)
     : Type 0 where
   pub starts : List ℕ
@@ -34,7 +35,7 @@ pub record TellsLimits (rule : Rule) (workers : List ℕ) (spaces : List Space) 
   pub are_limits : AreLimits instance (start_of starts) limits
   pub are_listed : AreListed rule instance
       (length_of (work_of_instance instance) (start_of starts)) workers listed
-  pub lines : text ≡ text_of (limits_lines spaces instance.tree instance.trace.messages workers limits listed)
+  pub lines : text ≡ text_of (limits_lines spaces instance.tree instance.trace workers limits listed)
 
 -- that of a hierarchy and a trace
 abbrev pub IsLimitsText : Rule → List ℕ → List ℕ → List ℕ → List ℕ → Type 0
@@ -42,7 +43,7 @@ IsLimitsText rule hierarchy_file trace_file workers text =
     IsToldUnder (λ layout. TellsLimits rule workers layout.spaces) hierarchy_file trace_file text
 
 -- no plan for as many workers, or without a limit on them, that obeys in whatever order is shorter than the greatest of the share of a
--- worker, the clients, the writes, the data and the tree
+-- worker, the clients, the lists, the writes, the data and the tree
 abbrev pub NoneIsBelowText : Rule → List ℕ → List ℕ → Type 0
 NoneIsBelowText rule hierarchy_file trace_file =
     (workers text : List ℕ) (limit : Option ℕ) (other : ℕ → ℕ) → (told : IsLimitsText rule hierarchy_file trace_file workers text)
@@ -67,7 +68,7 @@ OrderIsShortestInText rule hierarchy_file trace_file =
     → KeepsOrderWhere (has_clients told.instance.trace.version) told.instance (start_of told.told.starts) other
     → told.told.limits.order ≤ length_of (work_of_instance told.instance) other
 
--- `order` is no less than `clients`, `writes`, `data` and `tree`; and without clients no plan by the rule is shorter than it
+-- `order` is no less than `clients`, `after`, `writes`, `data` and `tree`; and without clients no plan by the rule is shorter than it
 pub record OrderIsBetween (limits : Limits) (version : Version) (listed : List Figures) : Type 0 where
   pub above : greatest_limit None limits ≤ limits.order
   pub below : has_clients version ≡ false → All (λ figures. limits.order ≤ figures.length) listed
@@ -77,7 +78,18 @@ OrderIsBetweenInText rule hierarchy_file trace_file =
     (workers text : List ℕ) → (told : IsLimitsText rule hierarchy_file trace_file workers text)
     → OrderIsBetween told.told.limits told.instance.trace.version told.told.listed
 
--- where no message has a release, a think time or a client, a plan that obeys in some order is as long as `tree`
+-- `order` is no less than `after`, and `after` no less than `clients`; where no message has a list it is `clients`
+pub record AfterIsBetween (limits : Limits) (messages : List Message) : Type 0 where
+  pub above : limits.client.ticks ≤ limits.after.ticks
+  pub below : limits.after.ticks ≤ limits.order
+  pub alone : All (λ message. message.after ≡ []) messages → limits.client ≡ limits.after
+
+abbrev pub AfterIsBetweenInText : Rule → List ℕ → List ℕ → Type 0
+AfterIsBetweenInText rule hierarchy_file trace_file =
+    (workers text : List ℕ) → (told : IsLimitsText rule hierarchy_file trace_file workers text)
+    → AfterIsBetween told.told.limits told.instance.trace.messages
+
+-- where no message has a release, a think time, a client or a list, a plan that obeys in some order is as long as `tree`
 abbrev pub TreeIsReachedInText : Rule → List ℕ → List ℕ → Type 0
 TreeIsReachedInText rule hierarchy_file trace_file =
     (workers text : List ℕ) → (told : IsLimitsText rule hierarchy_file trace_file workers text)

@@ -76,6 +76,8 @@ fn likely_version(trace: &[u8]) -> Version {
         Version::V1
     } else if trace.starts_with(b"message,cost,release,client,think,ops") {
         Version::V3
+    } else if trace.starts_with(b"message,cost,release,client,think,after,ops") {
+        Version::V4
     } else {
         Version::V2
     }
@@ -87,10 +89,7 @@ fn likely_messages(version: Version, plan: &[u8]) -> u32
     ensures { result ≤ MAX_MESSAGES }
 {
     let lines = plan.iter().filter(|byte| **byte == b'\n').count();
-    let others = match version {
-        Version::V1 => 7,
-        Version::V2 | Version::V3 => 8,
-    };
+    let others = if version.has_releases() { 8 } else { 7 };
     lines.saturating_sub(others).min(MAX_MESSAGES as usize) as u32
 }
 

@@ -120,6 +120,7 @@ pub fn verdict_status(verdict: &Verdict) -> u8
         | Verdict::Totals
         | Verdict::NotAChain { .. }
         | Verdict::Early { .. }
-        | Verdict::Client { .. } => 1,
+        | Verdict::Client { .. }
+        | Verdict::After { .. } => 1,
     }
 }

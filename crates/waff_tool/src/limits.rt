@@ -3,7 +3,8 @@ ghost use Rattle.std.specs.Prelude.{◌≡◌, ◌<◌, ℕ, List, IfOk};
 ghost use Rattle.std.specs.Prelude.{length, string_bytes};
 ghost use Rattle.waff_model.specs.Messages.{sizes_of};
 ghost use Rattle.waff_assign.specs.Case.{instance_of};
-ghost use Rattle.waff_tool.specs.LimitsText.{DataBoundsTexts, LimitsAreSwept, NoneIsBelowText};
+ghost use Rattle.waff_tool.specs.LimitsText.{AfterIsBetweenInText, DataBoundsTexts};
+ghost use Rattle.waff_tool.specs.LimitsText.{LimitsAreSwept, NoneIsBelowText};
 ghost use Rattle.waff_tool.specs.LimitsText.{OrderIsBetweenInText, OrderIsShortestInText};
 ghost use Rattle.waff_tool.specs.LimitsText.{TellsLimits, TreeIsReachedInText};
 
@@ -11,7 +12,7 @@ use std::alloc::{AllocError, Global};
 use std::thread::Threads;
 use waff_assign::Case;
 use waff_figures::list_figures;
-use waff_limits::laws::path_is_reached;
+use waff_limits::laws::{after_is_not_below, no_lists_add_nothing, path_is_reached};
 use waff_limits::{limits_of, limits_text};
 use waff_list::Rule;
 use waff_model::Layout;
@@ -19,8 +20,8 @@ use waff_plan::unlimited::plan;
 use waff_plan::{Planned, Workers};
 
 /// The text of what limits a case over this layout: for each of these numbers of workers their share of
-/// the costs, then what the clients, the cells, the tree of affinities and the order of service allow, and
-/// the length of the plan by this rule for each number of workers.
+/// the costs, then what the clients, the lists of messages that are awaited, the cells, the tree of affinities
+/// and the order of service allow, and the length of the plan by this rule for each number of workers.
 pub(crate) fn limited_text<R: Threads + Sync>(
     rt: &R,
     alloc: Global,
@@ -47,7 +48,7 @@ pub(crate) fn limited_text<R: Threads + Sync>(
 }
 
 /// No plan for as many workers that obeys, in whatever order it serves, is shorter than the greatest of what it tells of workers, clients,
-/// cells and the tree.
+/// lists, cells and the tree.
 pub fn none_is_below_text()
     ensures { (rule : Rule) (hierarchy_file trace_file : List ℕ)
         → NoneIsBelowText rule hierarchy_file trace_file }
@@ -65,14 +66,24 @@ pub fn order_is_shortest_in_text()
         → OrderIsShortestInText rule hierarchy_file trace_file }
 {}
 
-/// What it tells of the order is no less than what it tells of clients, cells and the tree, and without clients no more than it tells of
-/// the plans.
+/// What it tells of the order is no less than what it tells of clients, lists, cells and the tree, and without clients no more than it
+/// tells of the plans.
 pub fn order_is_between()
     ensures { (rule : Rule) (hierarchy_file trace_file : List ℕ)
         → OrderIsBetweenInText rule hierarchy_file trace_file }
 {}
 
-/// Where no message has a release, a think time or a client, a plan that obeys in some order is as long as what it tells of the tree.
+/// What it tells of lists is no less than what it tells of clients, and no more than what it tells of the order. Where no message has a
+/// list it is what it tells of clients.
+pub fn after_is_between()
+    ensures { (rule : Rule) (hierarchy_file trace_file : List ℕ)
+        → AfterIsBetweenInText rule hierarchy_file trace_file }
+{
+    after_is_not_below();
+    no_lists_add_nothing();
+}
+
+/// Where no message has a release, a think time, a client or a list, a plan that obeys in some order is as long as what it tells of the tree.
 pub fn tree_is_reached_in_text()
     ensures { (rule : Rule) (hierarchy_file trace_file : List ℕ)
         → TreeIsReachedInText rule hierarchy_file trace_file }

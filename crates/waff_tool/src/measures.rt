@@ -119,10 +119,10 @@ fn push_header(text: &mut String, version: Version) -> Result<(), AllocError>
     ensures { OnOk result (Adds text.old text.new
         (line_text (measures_header version))) }
 {
-    text.push_str(match version {
-        Version::V1 => "model,length,chain,list,listchain,left,right\n",
-        Version::V2 | Version::V3 =>
-            "model,length,release,chain,list,listrelease,listchain,left,right\n",
+    text.push_str(if version.has_releases() {
+        "model,length,release,chain,list,listrelease,listchain,left,right\n"
+    } else {
+        "model,length,chain,list,listchain,left,right\n"
     })
 }
 
@@ -142,13 +142,14 @@ fn push_plan(text: &mut String, version: Version, plan: &Totals) -> Result<(), A
     ensures { OnOk result (Adds text.old text.new
         (44 ∷ join_with_byte 44 (plan_fields version plan.now))) }
 {
-    match version {
-        Version::V1 => write!(text, ",{},{}", plan.length, plan.cost),
-        Version::V2 | Version::V3 => write!(
+    if version.has_releases() {
+        write!(
             text,
             ",{},{},{}",
             plan.length, plan.release, plan.cost
-        ),
+        )
+    } else {
+        write!(text, ",{},{}", plan.length, plan.cost)
     }
 }
 

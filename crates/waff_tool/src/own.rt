@@ -5,8 +5,8 @@ ghost use Rattle.std.specs.Prelude.{ℕ, List};
 ghost use Rattle.waff_list.specs.declared.rule.Rule.{Rule};
 ghost use Rattle.waff_tool.specs.OwnPlans.{OwnPlanPasses, OwnWorkerPlanPasses};
 
-/// The text of a plan without workers is read, and its verdict is Shortest, or in a trace of the third
-/// version Tight.
+/// The text of a plan without workers is read, and its verdict is Shortest, or in a trace with clients
+/// Tight.
 pub fn own_plan_passes()
     ensures passes { (hierarchy_file trace_file text : List ℕ)
         → OwnPlanPasses hierarchy_file trace_file text }

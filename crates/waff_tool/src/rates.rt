@@ -107,6 +107,7 @@ fn given_figures(alloc: Global, case: &Case<'_>, given: &GivenPlan) -> Result<Fi
     let shortest = unlimited.length();
     drop(unlimited);
     let _affinities = case.tree.len();
+    let _messages = case.trace.len();
     let handed = given.plan(alloc, case.trace)?;
     let planned = Planned {
         case: *case,

@@ -39,9 +39,9 @@ use waff_replay::{Open, replay, serial};
 
 /// Writes the state that the messages of the trace leave under the hierarchy, which has few cells. They are replayed by
 /// this many workers, of which the calling thread is one, in the order of the list plan for as many:
-/// for one worker that of arrival, if no message has a release; in a trace of the third version always
-/// that of the trace. Releases and think times are not waited for. Nothing is written before the whole
-/// text is made.
+/// for one worker that of arrival, if no message has a release; in a trace with clients always that of
+/// the trace. Releases and think times are not waited for, nor what messages await. Nothing is written
+/// before the whole text is made.
 pub fn replay_text<R: Threads + Wait + Sync, W: Write>(
     rt: &R,
     alloc: Global,
@@ -235,8 +235,8 @@ fn needs_and_order(
     Ok((needs, order))
 }
 
-/// The order of a replay by k workers: that of the list plan, and in the third version that of the
-/// trace.
+/// The order of a replay by k workers: that of the list plan, and where messages have clients that of
+/// the trace.
 fn order_of(
     alloc: Global,
     accepted: &Accepted,
@@ -252,10 +252,10 @@ fn order_of(
     ensures replay { IfOk result (λ order. IsReplayOrder accepted.now.layout.tree
         accepted.now.assigned accepted.now.trace k order.items) }
 {
-    match accepted.trace.version() {
-        Version::V1 => list_order(alloc, accepted, needs, k),
-        Version::V2 => list_order(alloc, accepted, needs, k),
-        Version::V3 => order_by_number(alloc, accepted.trace.len()),
+    if accepted.trace.version().has_clients() {
+        order_by_number(alloc, accepted.trace.len())
+    } else {
+        list_order(alloc, accepted, needs, k)
     }
 }
 

@@ -48,6 +48,7 @@ fn text_for<R: Threads + Sync>(
 {
     let plan = plan(alloc, case.tree, case.assigned, case.trace)?;
     let _affinities = case.tree.len();
+    let _messages = case.trace.len();
     let planned = Planned {
         case: *case,
         plan: &plan,

@@ -28,6 +28,7 @@ impl fmt::Display for VerdictFields {
             Verdict::Early { message } => ("early", u64::from(message)),
             Verdict::Client { message } => ("client", u64::from(message)),
             Verdict::Tight => return f.write_str("tight"),
+            Verdict::After { message, awaited } => return write!(f, "after,{message},{awaited}"),
         };
         write!(f, "{name},{number}")
     }

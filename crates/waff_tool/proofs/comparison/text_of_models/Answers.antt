@@ -41,9 +41,9 @@ returns c =
       classical_measured = under_classical.measured;
       hierarchical_measured = under_hierarchical.measured;
       told = told;
-      no_longer = λ earlier yes. refined_is_no_longer classical hierarchical coarse fine trace c.args.k of_classical
+      no_longer = λ without yes. refined_is_no_longer classical hierarchical coarse fine trace c.args.k of_classical
           of_hierarchical under_classical.measured under_hierarchical.measured
-          (c.refined_is_no_longer.ensures hierarchical.tree classical.tree fine coarse (work_of_messages trace.messages) (told.0 yes)) earlier;
+          (c.refined_is_no_longer.ensures hierarchical.tree classical.tree fine coarse (work_of_messages trace.messages) (told.0 yes)) without;
       lines = lines ∙ ap (λ v. text_for v of_classical.unlimited.total) c.version.ensures
           ∙ ap (λ t. text_for trace.version t) total;
     })

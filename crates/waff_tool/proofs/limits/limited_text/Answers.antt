@@ -31,6 +31,6 @@ returns g c =
       least = rw (version, timings) at c.in_ok-plan.ensures.least;
       are_limits = c.in_ok-limits.ensures;
       are_listed = rw timings at c.in_ok-listed.ensures;
-      lines = lines ∙ ap (λ fs. text_of (limits_lines c.args.layout.now.spaces case.tree.now case.trace.now.messages c.args.workers.now limits fs)) c.as_slice.ensures.value;
+      lines = lines ∙ ap (λ fs. text_of (limits_lines c.args.layout.now.spaces case.tree.now case.trace.now c.args.workers.now limits fs)) c.as_slice.ensures.value;
     })
     c.limits_text-text.ensures

@@ -8,6 +8,7 @@ use Rattle.waff_check.specs.Verdicts.{starts_of}
 use Rattle.waff_figures.specs.Figures.{AreFigures}
 use Rattle.waff_figures.specs.Least.{IsLowerBound, least_in}
 use Rattle.waff_figures.specs.declared.figures.Figures.{Figures}
+use Rattle.waff_figures.proofs.LeastLaws.{follows_in}
 use Rattle.waff_tool.proofs.CertificateLemmas.{as_many}
 use Rattle.waff_tool.proofs.rates.given_figures.Goals as goal
 
@@ -35,6 +36,7 @@ returns c =
       least = least;
       are_figures = are_figures;
       bound = subst (λ n. IsLowerBound limit instance n) (sym (ap (λ (f : Figures). f.least) are_figures.are))
-          (c.least_is_lower_bound.ensures.bound instance limit (start_of starts) handed.given.workers c.len-affinities.ensures.tree case.lengths least);
+          (c.least_is_lower_bound.ensures.bound instance limit (start_of starts) handed.given.workers c.len-affinities.ensures.tree case.lengths
+          (follows_in instance c.len-messages.ensures.trace) least);
     })
     (rw (handed.timings, handed.starts, c.limit_of.ensures, c.workers.ensures, c.length-shortest.ensures.length, timings) at c.figures_of-figures.ensures)

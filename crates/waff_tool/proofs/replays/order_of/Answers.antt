@@ -1,25 +1,13 @@
-use Rattle.std.proofs.Common.{IfOk, List, ℕ, sym, ◌∙◌, subst}
+use Rattle.std.proofs.Common.{◌≡◌, Bool, true, false, IfOk, List, ℕ, sym, subst}
 use Rattle.std.proofs.lemmas.Result.{IfOk-weaker}
-use Rattle.waff_model.specs.declared.message.Version.{Version}
+use Rattle.waff_model.specs.Versions.{has_clients}
 use Rattle.waff_core.specs.Job.{IsOrder}
-use Rattle.waff_tool.specs.ListOrder.{IsReplayOrderIn}
+use Rattle.waff_tool.specs.ListOrder.{IsReplayOrderWhere}
 use Rattle.waff_tool.proofs.OrderLemmas.{numbers_are_order}
 use Rattle.waff_tool.proofs.replays.order_of.Goals as goal
 
-pub returns-in-V1-clause-replay : goal.returns-in-V1-clause-replay
-returns-in-V1-clause-replay c =
-    let a = c.args.accepted.now in
-    subst (λ (v : Version). IfOk c.list_order.result (λ order. IsReplayOrderIn v a.layout.tree a.assigned a.trace c.args.k order.items))
-    (sym c.in-V1.is ∙ c.version.ensures) c.list_order.ensures.list
-
-pub returns-in-V2-clause-replay : goal.returns-in-V2-clause-replay
-returns-in-V2-clause-replay c =
-    let a = c.args.accepted.now in
-    subst (λ (v : Version). IfOk c.list_order-in-V2.result (λ order. IsReplayOrderIn v a.layout.tree a.assigned a.trace c.args.k order.items))
-    (sym c.in-V2.is ∙ c.version.ensures) c.list_order-in-V2.ensures.list
-
-pub returns-in-V3-clause-order : goal.returns-in-V3-clause-order
-returns-in-V3-clause-order c =
+pub returns-then-has_clients-clause-order : goal.returns-then-has_clients-clause-order
+returns-then-has_clients-clause-order c =
     let a = c.args.accepted.now in
     IfOk-weaker c.order_by_number.result _ _
     (λ order is.
@@ -28,8 +16,16 @@ returns-in-V3-clause-order c =
     (c.requires.needs.count ∙ c.requires.assignment.count ∙ sym c.len.ensures.count)))
     c.order_by_number.ensures
 
-pub returns-in-V3-clause-replay : goal.returns-in-V3-clause-replay
-returns-in-V3-clause-replay c =
+pub returns-then-has_clients-clause-replay : goal.returns-then-has_clients-clause-replay
+returns-then-has_clients-clause-replay c =
     let a = c.args.accepted.now in
-    subst (λ (v : Version). IfOk c.order_by_number.result (λ order. IsReplayOrderIn v a.layout.tree a.assigned a.trace c.args.k order.items))
-    (sym c.in-V3.is ∙ c.version.ensures) (rw c.len.ensures.count at c.order_by_number.ensures)
+    let clients : has_clients a.trace.version ≡ true = ? in
+    subst (λ (b : Bool). IfOk c.order_by_number.result (λ order. IsReplayOrderWhere b a.layout.tree a.assigned a.trace c.args.k order.items))
+    (sym clients) (rw c.len.ensures.count at c.order_by_number.ensures)
+
+pub returns-else-has_clients-clause-replay : goal.returns-else-has_clients-clause-replay
+returns-else-has_clients-clause-replay c =
+    let a = c.args.accepted.now in
+    let without : has_clients a.trace.version ≡ false = ? in
+    subst (λ (b : Bool). IfOk c.list_order.result (λ order. IsReplayOrderWhere b a.layout.tree a.assigned a.trace c.args.k order.items))
+    (sym without) c.list_order.ensures.list

@@ -6,6 +6,7 @@ use Rattle.waff_plan_text.specs.Lines.{text_of}
 use Rattle.waff_figures.specs.Least.{IsLowerBound}
 use Rattle.waff_figures.specs.Sweep.{sweep_lines}
 use Rattle.waff_figures.specs.declared.figures.Figures.{Figures}
+use Rattle.waff_figures.proofs.LeastLaws.{follows_in}
 use Rattle.waff_tool.proofs.CertificateLemmas.{as_many}
 use Rattle.waff_tool.proofs.sweeps.text_for.Goals as goal
 
@@ -39,7 +40,8 @@ returns g c =
       are_listed = rw timings at c.in_ok-listed.ensures;
       are_unlimited = told;
       bound = subst (λ n. IsLowerBound None instance n) (sym (ap (λ (f : Figures). f.least) told.are))
-          (c.least_is_lower_bound.ensures.bound instance None (start_of starts) tt c.len-affinities.ensures.tree case.lengths least);
+          (c.least_is_lower_bound.ensures.bound instance None (start_of starts) tt c.len-affinities.ensures.tree case.lengths
+          (follows_in instance c.len-messages.ensures.trace) least);
       lines = lines ∙ ap (λ fs. text_of (sweep_lines fs unlimited)) c.as_slice.ensures.value;
     })
     c.figures_text-text.ensures
