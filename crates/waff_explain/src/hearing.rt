@@ -9,7 +9,7 @@ use crate::walk::push_line;
 use crate::words::Words;
 use std::alloc::{AllocError, Global};
 use waff_assign::Case;
-use waff_model::{AffinityId, Message, Tree, Version};
+use waff_model::{AffinityId, Await, Message, Tree, Version};
 use waff_plan::{Plan, Totals};
 use waff_plan_text::{GivenPlan, Row};
 
@@ -114,22 +114,27 @@ impl<'a> Heard<'a> {
         (self.start().max(other.start()), self.end().min(other.end()))
     }
 
-    /// Appends what there is to tell of the message: where messages have clients, also its client.
+    /// Appends what there is to tell of the message: where messages have clients, also its client,
+    /// and its list unless that is empty.
     pub(crate) fn push_facts(&self, words: &mut Words, version: Version) {
         let (message, row, number) = (self.message, self.row, self.number);
         let (name, client) = (message.name.as_str(), message.client.as_str());
         let (release, cost, think) = (message.release, message.cost, message.think);
         let (affinity, issue) = (self.affinity, self.issue);
         let (start, finish) = (row.start, row.finish);
-        match (version, row.worker) {
-            (Version::V3, Some(worker)) => say!(words; Message(number):
-                "{}, affinity {}, release {}, cost {}, client {}, think {}, issue {}, start {}, \
+        let Ok(list) = list_text(words.alloc(), message.after.as_slice()) else {
+            return words.refuse();
+        };
+        let after = list.as_bytes();
+        match (version.has_clients(), row.worker) {
+            (true, Some(worker)) => say!(words; Message(number):
+                "{}, affinity {}, release {}, cost {}, client {}, think {}{}, issue {}, start {}, \
                  finish {}, worker {}",
-                name, affinity, release, cost, client, think, issue, start, finish, worker),
-            (Version::V3, None) => say!(words; Message(number):
-                "{}, affinity {}, release {}, cost {}, client {}, think {}, issue {}, start {}, \
+                name, affinity, release, cost, client, think, after, issue, start, finish, worker),
+            (true, None) => say!(words; Message(number):
+                "{}, affinity {}, release {}, cost {}, client {}, think {}{}, issue {}, start {}, \
                  finish {}",
-                name, affinity, release, cost, client, think, issue, start, finish),
+                name, affinity, release, cost, client, think, after, issue, start, finish),
             (_, Some(worker)) => say!(words; Message(number):
                 "{}, affinity {}, release {}, cost {}, start {}, finish {}, worker {}",
                 name, affinity, release, cost, start, finish, worker),
@@ -138,6 +143,19 @@ impl<'a> Heard<'a> {
                 name, affinity, release, cost, start, finish),
         }
     }
+}
+
+/// A list as a trace spells it, behind what it is called; nothing where it is empty.
+fn list_text(alloc: Global, list: &[Await]) -> Result<String, AllocError> {
+    let mut text = String::new(alloc);
+    for awaited in list {
+        text.push_str(if text.is_empty() { ", after " } else { " " })?;
+        match awaited.gap {
+            0 => write!(text, "{}", awaited.message)?,
+            gap => write!(text, "{}+{}", awaited.message, gap)?,
+        }
+    }
+    Ok(text)
 }
 
 /// Appends why two affinities exclude each other.

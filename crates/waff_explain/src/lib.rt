@@ -10,7 +10,8 @@
 //! - `hierarchy`: a hierarchy that is refused, over `document` (a document of the wrong shape),
 //!   `affinities` (the tree) and `layouts` (spaces and maps), which find tables by `named`; `near`: keys of
 //!   a hierarchy that count for nothing and are nearly those of its format.
-//! - `traces`: a trace that is refused, over `operations` (the operations of a message).
+//! - `traces`: a trace that is refused, over `operations` (the operations of a message) and `lists` (what it
+//!   awaits).
 //! - `plan_texts`: the text of a plan that is refused.
 //! - `verdicts`: a verdict, with the messages that it names, over `hearing` (a case, and the plan that was
 //!   given for it).
@@ -27,6 +28,7 @@ mod fields;
 mod hearing;
 mod hierarchy;
 mod layouts;
+mod lists;
 mod named;
 mod near;
 mod operations;

@@ -4,6 +4,7 @@ ghost use Rattle.std.specs.Prelude.{IfOk, string_bytes};
 ghost use Rattle.waff_explain.specs.Lines.{AreHeadedLines};
 
 use crate::fields::{push_no_commas, push_no_name, push_no_number, push_no_text, push_too_many};
+use crate::lists::{push_many_pieces, push_no_list};
 use crate::operations::{count_ops, flaw_of};
 use crate::say;
 use crate::walk::Walk;
@@ -59,6 +60,7 @@ fn version_of(fields: usize) -> Version {
     match fields {
         3 => Version::V1,
         4 => Version::V2,
+        7 => Version::V4,
         _ => Version::V3,
     }
 }
@@ -69,6 +71,7 @@ fn fields_of(version: Version) -> usize {
         Version::V1 => 3,
         Version::V2 => 4,
         Version::V3 => 6,
+        Version::V4 => 7,
     }
 }
 
@@ -80,6 +83,8 @@ fn push_no_header(words: &mut Words, newest: Version) {
             say!(words; Wanted: "the header message,cost,ops or message,cost,release,ops"),
         Version::V3 =>
             say!(words; Wanted: "the header message,cost,ops, message,cost,release,ops or message,cost,release,client,think,ops"),
+        Version::V4 =>
+            say!(words; Wanted: "the header message,cost,ops, message,cost,release,ops, message,cost,release,client,think,ops or message,cost,release,client,think,after,ops"),
     }
 }
 
@@ -108,7 +113,9 @@ fn record_of(fault: TraceError) -> u64 {
         | TraceError::TooManyMessages { at }
         | TraceError::Release { at }
         | TraceError::Client { at }
-        | TraceError::Think { at } => at,
+        | TraceError::Think { at }
+        | TraceError::After { at }
+        | TraceError::TooManyAfter { at } => at,
         TraceError::Memory => 0,
     }
 }
@@ -140,6 +147,8 @@ fn push_fault(
         TraceError::Think { .. } => {
             push_no_number(words, "think time", walk.field(4), 0, u64::from(MAX_THINK))
         }
+        TraceError::After { at } => push_no_list(words, at.saturating_sub(1), walk.field(5)),
+        TraceError::TooManyAfter { .. } => push_many_pieces(words, walk.field(5)),
         TraceError::TooManyMessages { at } => {
             say!(words; Found: "message {}", at.saturating_sub(1));
             say!(words; Wanted: "{} messages or fewer", version.max_messages());
