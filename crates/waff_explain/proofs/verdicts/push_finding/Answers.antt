@@ -65,7 +65,7 @@ push_client-requires-clause-number c =
     let hearing = c.args.hearing.now in
     let claim = claim_of (instance_of hearing.case) hearing.given.now in
     is_named hearing.case.trace.now.messages c.in-Client.message
-    (found_as claim _ (verdict.Client c.in-Client.message) c.in-Client.is c.requires).holds.number
+    (found_as claim _ (verdict.Client c.in-Client.message) c.in-Client.is c.requires).holds.held.number
 
 pub push_client-requires-clause-follows : goal.push_client-requires-clause-follows
 push_client-requires-clause-follows c =
