@@ -1,5 +1,5 @@
 #!/usr/bin/env python3
-"""A plain planner of traces with clients, by definition and slowly: what waff prints of traces of all three versions.
+"""A plain planner of traces with clients, by definition and slowly: what waff prints of traces of all four versions.
 
     tests/random/clients.py COMMAND FILE ..      assign, plan, check, replay, compare, sweep, limits, rate, rank, waits, where, why, needs or draw, as
                                                  waff has them
@@ -8,235 +8,26 @@ Of `draw` it has events alone. It has no proof and shares no line with the progr
 waff does. Plans are made from tick to tick, over all pairs of messages, so take some hundred messages at most.
 """
 
-import csv
-import io
 import json
-import re
 import sys
-import tomllib
 from argparse import ArgumentParser, Namespace
 from collections import Counter
 from collections.abc import Callable, Iterable, Iterator, Sequence
-from dataclasses import dataclass, field
+from dataclasses import dataclass
 from itertools import pairwise, product
 
-HEADERS = {("message", "cost", "ops"): 1, ("message", "cost", "release", "ops"): 2}
-HEADERS |= {("message", "cost", "release", "client", "think", "ops"): 3}
-MOST_MESSAGES = {1: 65536, 2: 65536, 3: 1048576}
-MOST_OPS = {1: 32, 2: 32, 3: 1024}
-MOST_OPS_OF_TRACE = 16777216
+from traces import MOST_CELLS, NAME, Cell, Fault, Message, Trace, Tree, is_number, read_text, read_tree, records_of, trace_of, tree_of
+
 MOST_IN_PLAN = 10**15
-MOST_CELLS = 262144
-MOST_LARGE = 4294967295
 SWEPT = "1,2,3,4,6,8,12,16,24,32,48,64"
-
-NAME = re.compile(r"[A-Za-z0-9._-]{1,32}", re.ASCII)
-NUMBER = re.compile(r"0|[1-9][0-9]*", re.ASCII)
-CELL = re.compile(r"([A-Za-z0-9._-]{1,32}):(0|[1-9][0-9]*)(?:-(0|[1-9][0-9]*))?", re.ASCII)
-
 FIGURES = ("length", "speedup", "busy", "least", "over", "waits", "mean", "p50", "p99", "latency")
-
-
-class Fault(Exception):
-    """A fault as it is printed, after `waff: `."""
-
-
-# Hierarchies and traces
-
-
-@dataclass(slots=True)
-class Tree:
-    """Affinities by number, the parent of each (None for the root), and the spaces in their order."""
-
-    model: str
-    names: list[str]
-    parents: list[int | None]
-    sizes: dict[str, int]
-    units: dict[str, int]
-    owners: dict[str, list[int]]
-
-    def way(self, affinity: int) -> list[int]:
-        """From an affinity up to the root."""
-        parent = self.parents[affinity]
-        return [affinity] + ([] if parent is None else self.way(parent))
-
-    def excludes(self, one: int, other: int) -> bool:
-        return one in self.way(other) or other in self.way(one)
-
-    def owner(self, space: str, index: int) -> int:
-        to = self.owners[space]
-        return to[index // self.units[space] % len(to)]
-
-    def lowest(self, owners: set[int]) -> int:
-        """The lowest affinity at or above all of these."""
-        ways = [self.way(it) for it in owners]
-        return next(it for it in ways[0] if all(it in way for way in ways))
-
-    def preorder(self, affinity: int = 0) -> list[int]:
-        """An affinity, and what is below it: each child with what is below that one."""
-        children = [it for it, parent in enumerate(self.parents) if parent == affinity]
-        return [affinity] + [it for child in children for it in self.preorder(child)]
-
-
-Cell = tuple[str, int]
-
-
-@dataclass(slots=True)
-class Message:
-    """`ops` are verbs with their cells and numbers, a range as one operation for each cell. A client is None for `-`."""
-
-    name: str
-    cost: int
-    release: int = 0
-    client: str | None = None
-    think: int = 0
-    ops: list[tuple[str, Cell, Cell | int | None]] = field(default_factory=list)
-
-
-@dataclass(slots=True)
-class Trace:
-    version: int
-    messages: list[Message]
-
-
-def read_tree(name: str, number: int = 1) -> Tree:
-    return tree_of(read_text(name), number)
-
-
-def tree_of(text: str, number: int = 1) -> Tree:
-    """A hierarchy; `number` is its place among those that are read."""
-    table = tomllib.loads(text)
-    is_large = type(table.get("format")) is int and table["format"] == 2
-    most = MOST_LARGE if is_large else MOST_CELLS
-    for fault, numbers in (("Size", [it["size"] for it in table["space"]]), ("Unit", [it["unit"] for it in table["map"]])):
-        if not all(1 <= it <= most for it in numbers):
-            raise Fault(f"Hier.Layout.{fault} {number}")
-    if not is_large and sum(it["size"] for it in table["space"]) > most:
-        raise Fault(f"Hier.Layout.TooManyCells {number}")
-    names = [it["name"] for it in table["affinity"]]
-    parents = [names.index(it["parent"]) if "parent" in it else None for it in table["affinity"]]
-    sizes = {it["name"]: it["size"] for it in table["space"]}
-    units = {it["space"]: it["unit"] for it in table["map"]}
-    owners = {it["space"]: [names.index(owner) for owner in it["to"]] for it in table["map"]}
-    return Tree(table["model"], names, parents, sizes, units, owners)
-
-
-def is_number(word: str, most: int | None = None, least: int = 0) -> bool:
-    return NUMBER.fullmatch(word) is not None and least <= int(word) and (most is None or int(word) <= most)
-
-
-def read_text(name: str) -> str:
-    if name == "-":
-        return sys.stdin.buffer.read().decode("utf-8-sig")
-    with open(name, "rb") as file:
-        return file.read().decode("utf-8-sig")
-
-
-def records_of(text: str) -> list[list[str]]:
-    return [it for it in csv.reader(io.StringIO(text, newline="")) if it]
-
-
-def read_trace(name: str, tree: Tree) -> Trace:
-    return trace_of(read_text(name), tree)
-
-
-def trace_of(text: str, tree: Tree) -> Trace:
-    records = records_of(text)
-    version = HEADERS.get(tuple(records[0])) if records else None
-    if version is None:
-        raise Fault("Trace.Header 1")
-    messages: list[Message] = []
-    count = 0
-    for at, record in enumerate(records[1:], 2):
-        messages.append(message_of(record, at, tree, version))
-        count += len(messages[-1].ops)
-        if len(messages[-1].ops) > MOST_OPS[version] or version == 3 and count > MOST_OPS_OF_TRACE:
-            raise Fault(f"Trace.TooManyOps {at}")
-        if len(messages) > MOST_MESSAGES[version]:
-            raise Fault(f"Trace.TooManyMessages {at}")
-        for fault, wrong in late_faults(record, version):
-            if wrong:
-                raise Fault(f"Trace.{fault} {at}")
-    return Trace(version, messages)
-
-
-def late_faults(record: list[str], version: int) -> Iterator[tuple[str, bool]]:
-    """What is looked at last in a record."""
-    if version >= 2:
-        yield "Release", not is_number(record[2], 1000000000)
-    if version == 3:
-        yield "Client", NAME.fullmatch(record[3]) is None
-        yield "Think", not is_number(record[4], 10000000)
-
-
-def message_of(record: list[str], at: int, tree: Tree, version: int) -> Message:
-    """A message, where nothing is refused before the number of its operations. What is looked at last may be 0 here."""
-    if len(record) != {1: 3, 2: 4, 3: 6}[version]:
-        raise Fault(f"Trace.Fields {at}")
-    if NAME.fullmatch(record[0]) is None:
-        raise Fault(f"Trace.Name {at}")
-    if not is_number(record[1], 1000000, 1):
-        raise Fault(f"Trace.Cost {at}")
-    if record[-1] == "":
-        raise Fault(f"Trace.NoOps {at}")
-    ops = ops_of(record[-1], at, tree, version)
-    message = Message(record[0], int(record[1]), ops=ops)
-    if version >= 2 and is_number(record[2]):
-        message.release = int(record[2])
-    if version == 3:
-        message.client = None if record[3] == "-" else record[3]
-        message.think = int(record[4]) if is_number(record[4]) else 0
-    return message
-
-
-def ops_of(text: str, at: int, tree: Tree, version: int) -> list[tuple[str, Cell, Cell | int | None]]:
-    """The operations; each check is over all of them in turn."""
-    parts = [part_of(it, version) for it in text.split(";")]
-    if None in parts:
-        raise Fault(f"Trace.Op {at}")
-    found = [it for it in parts if it]
-    cells = [cell for _, words, _ in found for cell in words]
-    if any(space not in tree.sizes for space, _, _ in cells):
-        raise Fault(f"Trace.SpaceUnknown {at}")
-    if any(last >= tree.sizes[space] for space, _, last in cells):
-        raise Fault(f"Trace.IndexTooLarge {at}")
-    ops: list[tuple[str, Cell, Cell | int | None]] = []
-    for verb, words, value in found:
-        space, first, last = words[0]
-        other = words[1][:2] if len(words) > 1 else value
-        ops += [(verb, (space, index), other) for index in range(first, last + 1)]
-    return ops
-
-
-# A verb, cells (each a space, its first and its last index), and a number.
-Part = tuple[str, list[tuple[str, int, int]], int | None]
-
-
-def part_of(text: str, version: int) -> Part | None:
-    """An operation as it is written; None where it is none."""
-    verb, *words = text.split(" ")
-    value = None
-    if verb in ("set", "add"):
-        if len(words) != 2 or not is_number(words[1], 2**64 - 1):
-            return None
-        value = int(words.pop())
-    if len(words) != {"set": 1, "add": 1, "read": 1, "copy": 2, "swap": 2}.get(verb):
-        return None
-    cells = []
-    for word in words:
-        match = CELL.fullmatch(word)
-        if match is None or match[3] and (version < 3 or verb in ("copy", "swap") or int(match[2]) > int(match[3])):
-            return None
-        cells.append((match[1], int(match[2]), int(match[3] or match[2])))
-    return verb, cells, value
-
 
 # Plans
 
 
 class World:
-    """A trace under a tree: the affinity of each message, which messages exclude each other, and the one before each of its client.
-    Messages are numbered from 0 here."""
+    """A trace under a tree: the affinity of each message, which messages exclude each other, the one before each of its client, and the
+    gap of each that it awaits, of its client alone and of all. Messages are numbered from 0 here."""
 
     def __init__(self, tree: Tree, trace: Trace) -> None:
         self.tree = tree
@@ -246,6 +37,8 @@ class World:
         self.affinities = [tree.lowest({tree.owner(*cell) for cell in cells_of(it)}) for it in trace.messages]
         self.total = sum(it.cost for it in trace.messages)
         self.befores = [self.one_before(it) for it in self.all]
+        self.own = [self.own_of(it) for it in self.all]
+        self.awaits = [self.awaited_by(it) for it in self.all]
         names = range(len(tree.names))
         self.pairs = {(one, other) for one in names for other in names if tree.excludes(one, other)}
         self.excluding = [[it for it in self.all if self.excludes(it, m)] for m in self.all]
@@ -258,13 +51,23 @@ class World:
         found = [it for it in range(message) if client is not None and self.messages[it].client == client]
         return found[-1] if found else None
 
+    def own_of(self, message: int) -> dict[int, int]:
+        """What a message awaits of its client, with the gap."""
+        before = self.befores[message]
+        return {} if before is None else {before: self.messages[message].think}
+
+    def awaited_by(self, message: int) -> dict[int, int]:
+        """What a message awaits, each with the greatest of its gaps."""
+        own, after = self.own[message], self.messages[message].after
+        return {it: max(own.get(it, 0), after.get(it, 0)) for it in own | after}
+
     def before(self, message: int) -> int | None:
         """The message before one of its client."""
         return self.befores[message]
 
     def floor(self, message: int) -> int:
         it = self.messages[message]
-        return max(it.release, it.think) if self.version == 3 and self.before(message) is None else it.release
+        return max(it.release, it.think) if self.version >= 3 and self.before(message) is None else it.release
 
     def tails(self) -> list[int]:
         """What the rule `longest` sorts by, of each message."""
@@ -273,7 +76,7 @@ class World:
             if self.version < 3:
                 below = [found[it] for it in found if self.excludes(it, m)]
             else:
-                below = [self.messages[it].think + found[it] for it in found if self.before(it) == m]
+                below = [self.awaits[it][m] + found[it] for it in found if m in self.awaits[it]]
             found[m] = self.messages[m].cost + max(below, default=0)
         return [found[m] for m in self.all]
 
@@ -282,14 +85,13 @@ class World:
         found = -(-self.total // workers) if workers else 0
         if self.version < 3:
             return max(found, plan_of(self, None).length())
-        return max([found, *self.ends(), *self.works()])
+        return max([found, *self.ends(self.awaits), *self.works()])
 
-    def ends(self) -> list[int]:
-        """When each message has finished at the soonest, if none waits but for its own client."""
+    def ends(self, awaits: list[dict[int, int]]) -> list[int]:
+        """When each message has finished at the soonest, if none waits but for what it awaits so."""
         found = list[int]()
         for m in self.all:
-            before, it = self.before(m), self.messages[m]
-            found.append(max(it.release, (0 if before is None else found[before]) + it.think) + it.cost)
+            found.append(max([self.floor(m), *(found[it] + gap for it, gap in awaits[m].items())]) + self.messages[m].cost)
         return found
 
     def works(self) -> list[int]:
@@ -335,12 +137,10 @@ class Plan:
 
     def issue(self, m: int) -> int | None:
         """When a message is issued; None while that is not known."""
-        it, before = self.world.messages[m], self.world.before(m)
-        if self.world.version < 3:
-            return it.release
-        if before is None:
-            return max(it.release, it.think)
-        return None if self.starts[before] is None else max(it.release, self.finish(before) + it.think)
+        awaits = self.world.awaits[m]
+        if any(self.starts[it] is None for it in awaits):
+            return None
+        return max([self.world.floor(m), *(self.finish(it) + gap for it, gap in awaits.items())])
 
     def issued(self, m: int) -> int:
         found = self.issue(m)
@@ -391,14 +191,14 @@ class Plan:
         return max((self.finish(m) for m in self.world.all), default=0)
 
     def gap(self, one: int, other: int) -> int:
-        return self.world.messages[other].think if self.world.before(other) == one else 0
+        return self.world.awaits[other].get(one, 0)
 
     def is_link(self, one: int, other: int) -> bool:
         if self.world.version < 3:
             return one < other and self.world.excludes(one, other)
         start, end = self.starts[one], self.starts[other]
         assert start is not None and end is not None
-        return self.world.before(other) == one or self.world.excludes(one, other) and start < end
+        return one in self.world.awaits[other] or self.world.excludes(one, other) and start < end
 
     def chain(self) -> list[int]:
         """The printed chain."""
@@ -438,7 +238,7 @@ def plan_of(world: World, workers: int | None, rule: str = "arrival") -> Plan:
         free = [it for it in range(1, (workers or 0) + 1) if it not in busy]
         if workers is not None:
             # By the issues first; the other sort keeps the order of those with equal tails.
-            ready.sort(key=lambda m: (plan.issued(m), m) if world.version == 3 else (m,))
+            ready.sort(key=lambda m: (plan.issued(m), m) if world.version >= 3 else (m,))
             if rule == "longest":
                 ready.sort(key=lambda m: tails[m], reverse=True)
             ready = sorted(ready[: len(free)])
@@ -538,8 +338,10 @@ def sweep_text(world: World, counts: list[int], rule: str) -> str:
 
 def limits_text(world: World, counts: list[int], rule: str) -> str:
     """What limits a trace. Of several that are the greatest the first is told."""
-    ends, works = world.ends(), world.works()
+    works = world.works()
+    ends, awaited = world.ends(world.own), world.ends(world.awaits)
     client = max(world.all, key=lambda m: ends[m], default=None)
+    message = max(world.all, key=lambda m: awaited[m], default=None)
     used: Counter[Cell] = Counter()
     written: Counter[Cell] = Counter()
     read: dict[Cell, int] = {}
@@ -557,6 +359,8 @@ def limits_text(world: World, counts: list[int], rule: str) -> str:
     affinity = max(range(len(works)), key=lambda a: works[a])
     found: list[tuple[str, int | None, int, str]] = [("work", k, -(-world.total // k), "-") for k in counts]
     found.append(("clients", None, max(ends, default=0), "-" if client is None else world.messages[client].client or "-"))
+    if world.version == 4:
+        found.append(("after", None, max(awaited, default=0), "-" if message is None else str(message + 1)))
     found.append(("writes", None, shared[of_writes] if of_writes else 0, "{}:{}".format(*of_writes) if of_writes else "-"))
     found.append(("data", None, used[cell] if cell else 0, "{}:{}".format(*cell) if cell else "-"))
     found.append(("tree", None, works[affinity], world.tree.names[affinity] if world.messages else "-"))
@@ -776,7 +580,7 @@ def faults(given: Given) -> Iterator[str]:
     for one in world.all:
         for other in range(one + 1, len(world.messages)):
             in_turn = world.version < 3 and (plan.starts[other] or 0) < plan.finish(one)
-            if world.excludes(one, other) and (in_turn or world.version == 3 and is_common(plan, one, other)):
+            if world.excludes(one, other) and (in_turn or world.version >= 3 and is_common(plan, one, other)):
                 yield f"overlap,{one + 1},{other + 1}"
     k = plan.count
     for tick in sorted(it for it in plan.starts if it is not None):
@@ -797,6 +601,10 @@ def faults(given: Given) -> Iterator[str]:
         before = world.before(m)
         if before is not None and (plan.starts[m] or 0) < plan.finish(before) + world.messages[m].think:
             yield f"client,{m + 1}"
+    for m in world.all:
+        for it, gap in world.messages[m].after.items():
+            if (plan.starts[m] or 0) < plan.finish(it) + gap:
+                yield f"after,{m + 1},{it + 1}"
 
 
 def verdict(given: Given) -> tuple[str, int]:
@@ -809,9 +617,9 @@ def verdict(given: Given) -> tuple[str, int]:
     k, length = plan.count, plan.length()
     release, cost = plan.chain_release(chain), sum(world.messages[m].cost for m in chain)
     is_tight = release + cost == length
-    if length == world.least(k) if world.version == 3 else is_tight:
+    if length == world.least(k) if world.version >= 3 else is_tight:
         return "shortest", 0
-    if world.version == 3 and is_tight:
+    if world.version >= 3 and is_tight:
         return "tight", 0
     if k is not None and k * length <= world.total + k * release + (k - 1) * cost:
         return "withinbound", 0
@@ -870,14 +678,15 @@ def told_of(world: World, m: int) -> dict[str, object]:
     message = world.messages[m]
     found: dict[str, object] = {"number": m + 1, "name": message.name, "affinity": world.tree.names[world.affinities[m]]}
     found["release"] = message.release
-    return found | ({"client": message.client or "-"} if world.version == 3 else {})
+    found |= {"client": message.client or "-"} if world.version >= 3 else {}
+    return found | ({"after": [it + 1 for it in message.after]} if message.after else {})
 
 
 # Words
 
 
 def words() -> ArgumentParser:
-    top = ArgumentParser(prog="clients.py", description="Plans traces with clients plainly, for tests.")
+    top = ArgumentParser(prog="clients.py", description="Plans traces of all versions plainly, for tests.")
     parts = top.add_subparsers(dest="command", required=True)
     files = {"rank": ["trace"], "compare": ["hier", "other", "trace"]}
     for name in ("assign", "needs", "plan", "check", "replay", "compare", "sweep", "limits", "rate", "rank", "waits", "where", "why", "draw"):
