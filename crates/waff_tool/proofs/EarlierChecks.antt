@@ -88,6 +88,7 @@ module _ (tree : List Node) (assigned sizes : List ℕ) (messages : List Message
 
   pub rated_in : {v w : Version} → Both v w → (plan_file : List ℕ) (found : Verdict) (text : List ℕ) → IsRatedIn (in_version v) plan_file found text
       → IsRatedIn (in_version w) plan_file found text
+  unfolding checked_in
   rated_in both plan_file found text p = record {
     checked = checked_in both plan_file found p.checked;
     figures = p.figures;

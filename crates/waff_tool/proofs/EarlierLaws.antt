@@ -105,17 +105,14 @@ checked_alike hierarchy_file trace_file earlier_file plan_file same v =
     (λ v w both layout tree assigned sizes messages found. checked_in tree assigned sizes messages both plan_file found) hierarchy_file trace_file earlier_file same v in
     ((λ p. from earlier_file (both.0 (to trace_file p))), λ p. from trace_file (both.1 (to earlier_file p)))
   where
-    abbrev IsTold : List ℕ → Type 0
-    IsTold file = IsToldUnder (λ layout instance v. IsCheckedIn instance plan_file v) hierarchy_file file v
-
-    to : (file : List ℕ) → IsCheckText hierarchy_file file plan_file v → IsTold file
+    to : (file : List ℕ) → IsCheckText hierarchy_file file plan_file v → IsToldUnder (λ layout instance v. IsCheckedIn instance plan_file v) hierarchy_file file v
     to file p = record {
       instance = p.instance;
       accepts = p.accepts.accepts;
       told = record { given = p.given; is_plan = p.accepts.is_plan; verdict = p.verdict; promises = p.promises };
     }
 
-    from : (file : List ℕ) → IsTold file → IsCheckText hierarchy_file file plan_file v
+    from : (file : List ℕ) → IsToldUnder (λ layout instance v. IsCheckedIn instance plan_file v) hierarchy_file file v → IsCheckText hierarchy_file file plan_file v
     from file p = record {
       instance = p.instance;
       given = p.told.given;
@@ -131,10 +128,7 @@ rated_alike hierarchy_file trace_file earlier_file plan_file same v text =
     (λ v w both layout tree assigned sizes messages text. rated_in tree assigned sizes messages both plan_file v text) hierarchy_file trace_file earlier_file same text in
     ((λ p. from earlier_file (both.0 (to trace_file p))), λ p. from trace_file (both.1 (to earlier_file p)))
   where
-    abbrev IsTold : List ℕ → Type 0
-    IsTold file = IsToldUnder (λ layout instance text. IsRatedIn instance plan_file v text) hierarchy_file file text
-
-    to : (file : List ℕ) → IsRateText hierarchy_file file plan_file v text → IsTold file
+    to : (file : List ℕ) → IsRateText hierarchy_file file plan_file v text → IsToldUnder (λ layout instance text. IsRatedIn instance plan_file v text) hierarchy_file file text
     to file p = record {
       instance = p.checked.instance;
       accepts = p.checked.accepts.accepts;
@@ -146,7 +140,7 @@ rated_alike hierarchy_file trace_file earlier_file plan_file same v text =
       };
     }
 
-    from : (file : List ℕ) → IsTold file → IsRateText hierarchy_file file plan_file v text
+    from : (file : List ℕ) → IsToldUnder (λ layout instance text. IsRatedIn instance plan_file v text) hierarchy_file file text → IsRateText hierarchy_file file plan_file v text
     from file p = record {
       checked = record {
         instance = p.instance;
@@ -168,17 +162,14 @@ drawn_alike hierarchy_file trace_file earlier_file plan_file same picture part t
     hierarchy_file trace_file earlier_file same text in
     ((λ p. from earlier_file (both.0 (to trace_file p))), λ p. from trace_file (both.1 (to earlier_file p)))
   where
-    abbrev IsTold : List ℕ → Type 0
-    IsTold file = IsToldUnder (λ layout instance text. IsDrawnIn instance plan_file picture part text) hierarchy_file file text
-
-    to : (file : List ℕ) → IsDrawText hierarchy_file file plan_file picture part text → IsTold file
+    to : (file : List ℕ) → IsDrawText hierarchy_file file plan_file picture part text → IsToldUnder (λ layout instance text. IsDrawnIn instance plan_file picture part text) hierarchy_file file text
     to file p = record {
       instance = p.instance;
       accepts = p.accepts.accepts;
       told = record { given = p.given; is_plan = p.accepts.is_plan; drawn = p.drawn };
     }
 
-    from : (file : List ℕ) → IsTold file → IsDrawText hierarchy_file file plan_file picture part text
+    from : (file : List ℕ) → IsToldUnder (λ layout instance text. IsDrawnIn instance plan_file picture part text) hierarchy_file file text → IsDrawText hierarchy_file file plan_file picture part text
     from file p = record {
       instance = p.instance;
       given = p.told.given;

@@ -209,15 +209,15 @@ module _ (tree : List Node) (assigned sizes : List ℕ) (messages : List Message
   }
 
   -- `rank`
-  pub ranked : {v w : Version} → Both v w → (rule : Rule) (kind : Kind) (k : ℕ) (ranked : Ranked) → IsRankedUnder rule kind k (in_version v) ranked
-      → IsRankedUnder rule kind k (in_version w) ranked
-  ranked down rule kind k ranked p = record {
+  pub ranked : {v w : Version} → Both v w → (rule : Rule) (kind : Kind) (k : ℕ) (found : Ranked) → IsRankedUnder rule kind k (in_version v) found
+      → IsRankedUnder rule kind k (in_version w) found
+  ranked down rule kind k found p = record {
     starts = p.starts; kind_is = p.kind_is; affinities = p.affinities; least = p.least; shortest = p.shortest;
-    listed = listed down rule ranked.length ranked.listed p.listed; workers = p.workers
+    listed = listed down rule found.length found.listed p.listed; workers = p.workers
   }
-  ranked up rule kind k ranked p = record {
+  ranked up rule kind k found p = record {
     starts = p.starts; kind_is = p.kind_is; affinities = p.affinities; least = p.least; shortest = p.shortest;
-    listed = listed up rule ranked.length ranked.listed p.listed; workers = p.workers
+    listed = listed up rule found.length found.listed p.listed; workers = p.workers
   }
 
   -- `rate`
@@ -236,12 +236,12 @@ module _ (tree : List Node) (assigned sizes : List ℕ) (messages : List Message
       record { starts = p.starts; chain = p.chain; bounded = bounded both Arrival k (start_of p.starts) p.chain p.bounded; told = p.told }
 
 module _ (sizes : List ℕ) (messages : List Message) where
-  measured : {v w : Version} → Both v w → (layout : Hierarchy) (assigned : List ℕ) (k : ℕ) (measured : Measured)
-      → IsMeasured layout assigned (trace_in sizes messages v) k measured → IsMeasured layout assigned (trace_in sizes messages w) k measured
-  measured both layout assigned k measured p = record {
+  measured : {v w : Version} → Both v w → (layout : Hierarchy) (assigned : List ℕ) (k : ℕ) (found : Measured)
+      → IsMeasured layout assigned (trace_in sizes messages v) k found → IsMeasured layout assigned (trace_in sizes messages w) k found
+  measured both layout assigned k found p = record {
     kind = p.kind;
-    least = unlimited_totals layout.tree assigned sizes messages both measured.unlimited p.least;
-    by_arrival = list_totals layout.tree assigned sizes messages both k measured.listed p.by_arrival;
+    least = unlimited_totals layout.tree assigned sizes messages both found.unlimited p.least;
+    by_arrival = list_totals layout.tree assigned sizes messages both k found.listed p.by_arrival;
   }
 
   pub compared : {v w : Version} → Both v w → (classical hierarchical : Hierarchy) (k : ℕ) (text : List ℕ)

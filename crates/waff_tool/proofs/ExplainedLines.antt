@@ -54,6 +54,7 @@ first_begins (explained.Verdict verdict.Totals) = refl
 first_begins (explained.Verdict (verdict.NotAChain place)) = refl
 first_begins (explained.Verdict (verdict.Early message)) = refl
 first_begins (explained.Verdict (verdict.Client message)) = refl
+first_begins (explained.Verdict (verdict.After message awaited)) = refl
 first_begins (explained.Verdict verdict.Obeys) = refl
 first_begins (explained.Verdict verdict.Shortest) = refl
 first_begins (explained.Verdict verdict.Tight) = refl

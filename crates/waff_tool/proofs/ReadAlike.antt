@@ -1,12 +1,10 @@
 -- Hierarchies of the same spaces read the same trace from a text.
 use Rattle.std.proofs.Common.{◌≡◌, ℕ, Bool, true, false, List, [], ◌∷◌, drop, length, not, Option, Some, None, Result, Ok, Err, get_or, refl, sym, ◌∙◌, ap, ap₂}
 use Rattle.std.specs.List.{prefix_len}
-use Rattle.std.specs.Prelude.{if◌then◌else◌}
 use Rattle.std.specs.Str.{bytes_eq}
 use Rattle.std.proofs.lemmas.List.{length-map}
 use Rattle.waff_model.specs.Layout.{Space, SameSpaces, names_of, size_at, sizes_of, space_named}
 use Rattle.waff_model.specs.Names.{is_name}
-use Rattle.waff_model.specs.Versions.{has_clients}
 use Rattle.waff_model.specs.declared.message.Message.{Message}
 use Rattle.waff_model.specs.declared.message.Version.{Version}
 use Rattle.waff_model.specs.declared.op.Verb.{Verb}
@@ -19,7 +17,7 @@ use Rattle.waff_parse.specs.Texts.{blank, colon, hyphen, number_of, parts, semic
 use Rattle.waff_parse.specs.Walks.{gather}
 use Rattle.waff_read.specs.Messages.{Columns, columns_of, message_of_columns, message_of_row}
 use Rattle.waff_read.specs.Ops.{cell_and, cell_in, cell_of, cell_of_name, cell_of_parts, one_cell, op_of, op_of_verb, op_of_words, value_of, verb_named}
-use Rattle.waff_read.specs.Pieces.{ops_of, ops_of_range, or_range, piece_of, pieces_of}
+use Rattle.waff_read.specs.Pieces.{ops_of, piece_of, pieces_of}
 use Rattle.waff_read.specs.Places.{first_place, most_ops, next_place}
 use Rattle.waff_read.specs.Ranges.{ends_of, ends_of_name, range_of, range_of_three, range_of_two, range_of_words}
 use Rattle.waff_read.specs.TraceFaults.{number}
@@ -145,8 +143,7 @@ module _ (spaces others : List Space) (same : SameSpaces spaces others) where
 
   piece_alike : (version : Version) (piece : List ℕ) → piece_of version spaces piece ≡ piece_of version others piece
   unfolding piece_of
-  piece_alike version piece =
-      ap₂ (λ range op. if has_clients version then or_range (ops_of_range range) (one op) else one op) (range_alike piece) (op_alike piece)
+  piece_alike version piece = rw (range_alike piece, op_alike piece) refl
 
   pieces_alike : (version : Version) (text : List ℕ) → pieces_of version spaces text ≡ pieces_of version others text
   unfolding pieces_of

@@ -1,4 +1,4 @@
-use Rattle.std.proofs.Common.{◌≡◌, Bool, true, false, IfOk, List, ℕ, sym, subst}
+use Rattle.std.proofs.Common.{◌≡◌, Bool, true, false, IfOk, List, ℕ, ap, sym, ◌∙◌, subst}
 use Rattle.std.proofs.lemmas.Result.{IfOk-weaker}
 use Rattle.waff_model.specs.Versions.{has_clients}
 use Rattle.waff_core.specs.Job.{IsOrder}
@@ -19,13 +19,13 @@ returns-then-has_clients-clause-order c =
 pub returns-then-has_clients-clause-replay : goal.returns-then-has_clients-clause-replay
 returns-then-has_clients-clause-replay c =
     let a = c.args.accepted.now in
-    let clients : has_clients a.trace.version ≡ true = ? in
+    let clients : has_clients a.trace.version ≡ true = ap has_clients (sym c.version.ensures) ∙ sym c.has_clients.ensures ∙ c.if-has_clients.true in
     subst (λ (b : Bool). IfOk c.order_by_number.result (λ order. IsReplayOrderWhere b a.layout.tree a.assigned a.trace c.args.k order.items))
     (sym clients) (rw c.len.ensures.count at c.order_by_number.ensures)
 
 pub returns-else-has_clients-clause-replay : goal.returns-else-has_clients-clause-replay
 returns-else-has_clients-clause-replay c =
     let a = c.args.accepted.now in
-    let without : has_clients a.trace.version ≡ false = ? in
+    let without : has_clients a.trace.version ≡ false = ap has_clients (sym c.version.ensures) ∙ sym c.has_clients.ensures ∙ c.if-has_clients.false in
     subst (λ (b : Bool). IfOk c.list_order.result (λ order. IsReplayOrderWhere b a.layout.tree a.assigned a.trace c.args.k order.items))
     (sym without) c.list_order.ensures.list
