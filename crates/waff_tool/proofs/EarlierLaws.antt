@@ -95,14 +95,14 @@ told_same IsTold again hierarchy_file trace_file earlier_file same a = (
 
 pub told_alike : (asked : Told) (hierarchy_file trace_file earlier_file : List ℕ) → ToldAlike asked hierarchy_file trace_file earlier_file
 told_alike asked hierarchy_file trace_file earlier_file same other =
-    told_same (Tells asked) (λ v w both layout tree assigned sizes messages text. tells tree assigned sizes messages both asked other layout text)
+    told_same (Tells asked) (λ one again both layout tree assigned sizes messages text. tells tree assigned sizes messages both asked other layout text)
     hierarchy_file trace_file earlier_file same
 
 -- a check
 pub checked_alike : (hierarchy_file trace_file earlier_file plan_file : List ℕ) → CheckedAlike hierarchy_file trace_file earlier_file plan_file
 checked_alike hierarchy_file trace_file earlier_file plan_file same v =
     let both = told_same (λ layout instance v. IsCheckedIn instance plan_file v)
-    (λ v w both layout tree assigned sizes messages found. checked_in tree assigned sizes messages both plan_file found) hierarchy_file trace_file earlier_file same v in
+    (λ one other both layout tree assigned sizes messages found. checked_in tree assigned sizes messages both plan_file found) hierarchy_file trace_file earlier_file same v in
     ((λ p. from earlier_file (both.0 (to trace_file p))), λ p. from trace_file (both.1 (to earlier_file p)))
   where
     to : (file : List ℕ) → IsCheckText hierarchy_file file plan_file v → IsToldUnder (λ layout instance v. IsCheckedIn instance plan_file v) hierarchy_file file v
@@ -125,7 +125,7 @@ checked_alike hierarchy_file trace_file earlier_file plan_file same v =
 pub rated_alike : (hierarchy_file trace_file earlier_file plan_file : List ℕ) → RatedAlike hierarchy_file trace_file earlier_file plan_file
 rated_alike hierarchy_file trace_file earlier_file plan_file same v text =
     let both = told_same (λ layout instance text. IsRatedIn instance plan_file v text)
-    (λ v w both layout tree assigned sizes messages text. rated_in tree assigned sizes messages both plan_file v text) hierarchy_file trace_file earlier_file same text in
+    (λ one other both layout tree assigned sizes messages text. rated_in tree assigned sizes messages both plan_file v text) hierarchy_file trace_file earlier_file same text in
     ((λ p. from earlier_file (both.0 (to trace_file p))), λ p. from trace_file (both.1 (to earlier_file p)))
   where
     to : (file : List ℕ) → IsRateText hierarchy_file file plan_file v text → IsToldUnder (λ layout instance text. IsRatedIn instance plan_file v text) hierarchy_file file text
@@ -158,7 +158,7 @@ rated_alike hierarchy_file trace_file earlier_file plan_file same v text =
 pub drawn_alike : (hierarchy_file trace_file earlier_file plan_file : List ℕ) → DrawnAlike hierarchy_file trace_file earlier_file plan_file
 drawn_alike hierarchy_file trace_file earlier_file plan_file same picture part text =
     let both = told_same (λ layout instance text. IsDrawnIn instance plan_file picture part text)
-    (λ v w both layout tree assigned sizes messages text. drawn_in tree assigned sizes messages both plan_file picture part text)
+    (λ one other both layout tree assigned sizes messages text. drawn_in tree assigned sizes messages both plan_file picture part text)
     hierarchy_file trace_file earlier_file same text in
     ((λ p. from earlier_file (both.0 (to trace_file p))), λ p. from trace_file (both.1 (to earlier_file p)))
   where
