@@ -143,11 +143,7 @@ fn push_plan(text: &mut String, version: Version, plan: &Totals) -> Result<(), A
         (44 ∷ join_with_byte 44 (plan_fields version plan.now))) }
 {
     if version.has_releases() {
-        write!(
-            text,
-            ",{},{},{}",
-            plan.length, plan.release, plan.cost
-        )
+        write!(text, ",{},{},{}", plan.length, plan.release, plan.cost)
     } else {
         write!(text, ",{},{}", plan.length, plan.cost)
     }
