@@ -69,12 +69,26 @@ module _ (tree : List Node) (assigned sizes : List ℕ) (messages : List Message
 
     promises : {v w : Version} → Both v w → (a b : Version) (found : Verdict) → Promises (claim_in v a) found → Promises (claim_in w b) found
     promises down a b found p = record {
-      obeys = p.obeys; apart = p.apart; serves = p.serves; worker_plan = p.worker_plan; one_at_a_time = p.one_at_a_time; chain = p.chain;
-      shortest = p.shortest; tight = p.tight; bound = λ is. let (k, held) = p.bound is in (k, within down a b k held)
+      obeys = p.obeys;
+      apart = p.apart;
+      serves = p.serves;
+      worker_plan = p.worker_plan;
+      one_at_a_time = p.one_at_a_time;
+      chain = p.chain;
+      shortest = p.shortest;
+      tight = p.tight;
+      bound = λ is. let (k, held) = p.bound is in (k, within down a b k held);
     }
     promises up a b found p = record {
-      obeys = p.obeys; apart = p.apart; serves = p.serves; worker_plan = p.worker_plan; one_at_a_time = p.one_at_a_time; chain = p.chain;
-      shortest = p.shortest; tight = p.tight; bound = λ is. let (k, held) = p.bound is in (k, within up a b k held)
+      obeys = p.obeys;
+      apart = p.apart;
+      serves = p.serves;
+      worker_plan = p.worker_plan;
+      one_at_a_time = p.one_at_a_time;
+      chain = p.chain;
+      shortest = p.shortest;
+      tight = p.tight;
+      bound = λ is. let (k, held) = p.bound is in (k, within up a b k held);
     }
 
   pub checked_in : {v w : Version} → Both v w → (plan_file : List ℕ) (found : Verdict) → IsCheckedIn (in_version v) plan_file found

@@ -1,5 +1,5 @@
 -- A trace of the fourth version without lists has the texts of the same trace of the third.
-use Rattle.std.proofs.Common.{◌≡◌, ◌↔◌, ℕ, inl, inr, List, [], ◌∷◌, ◌++◌, drop, map, All, false, codes, None, Ok, refl, sym, ◌∙◌, ap, subst, append_assoc}
+use Rattle.std.proofs.Common.{◌≡◌, ◌↔◌, ℕ, inl, inr, List, [], ◌∷◌, ◌++◌, drop, map, All, codes, None, Ok, refl, sym, ◌∙◌, ap, subst, append_assoc}
 use Rattle.std.proofs.lemmas.List.Elements.{All-head, All-tail}
 use Rattle.std.specs.List.{AllZip}
 use Rattle.waff_model.specs.Layout.{Hierarchy, Space}
@@ -15,9 +15,8 @@ use Rattle.waff_assign.specs.Lowest.{IsAssignment}
 use Rattle.waff_list.specs.declared.rule.Rule.{Rule}
 use Rattle.waff_plan_text.specs.Lines.{text_of}
 use Rattle.waff_plan.specs.Timing.{start_of}
-use Rattle.waff_draw.specs.declared.parts.Part.{Part}
 use Rattle.waff_figures.specs.declared.told.Told.{Told}
-use Rattle.waff_inputs.specs.Inputs.{Accepts, IsToldUnder}
+use Rattle.waff_inputs.specs.Inputs.{IsToldUnder}
 use Rattle.waff_inputs.specs.Known.{newest, trace_of}
 use Rattle.waff_inputs.proofs.SameInput.{same_ok, told_under_is_one}
 use Rattle.waff_limits.specs.Limits.{bound_lines, client_field, limit_row, limits_header, limits_lines, message_field, planned_row, work_row}
@@ -26,11 +25,10 @@ use Rattle.waff_tool.specs.Comparison.{IsCompareText, IsCompared}
 use Rattle.waff_tool.specs.DrawText.{IsDrawText}
 use Rattle.waff_tool.specs.Earlier.{AreSameUnder, CheckedAlike, ComparedAlike, DrawnAlike, HasLineMore, HaveNoLists, LimitsAlike, RankedAlike, RatedAlike, ReplayedAlike, SpellSame, ToldAlike}
 use Rattle.waff_tool.specs.LimitsText.{IsLimitsText, TellsLimits}
-use Rattle.waff_tool.specs.Ranks.{IsRankText, IsRanked, IsRankedUnder}
+use Rattle.waff_tool.specs.Ranks.{IsRanked, IsRankedUnder}
 use Rattle.waff_tool.specs.Rate.{IsRateText}
 use Rattle.waff_tool.specs.ReplayText.{IsReplayText, state_after, state_lines}
 use Rattle.waff_tool.specs.Told.{Tells}
-use Rattle.waff_tool.specs.declared.draws.Picture.{Picture}
 use Rattle.waff_tool.specs.declared.ranks.Ranked.{Ranked}
 use Rattle.waff_tool.proofs.EarlierChecks.{IsCheckedIn, IsDrawnIn, IsRatedIn, checked_in, drawn_in, rated_in}
 use Rattle.waff_tool.proofs.EarlierReadings.{Both, down, up}
@@ -273,8 +271,7 @@ limits_down rule workers layout tree assigned sizes messages text p =
     let clients = limit_row (codes "clients") None limits.total limits.client.ticks (client_field messages limits.client) in
     let after = limit_row (codes "after") None limits.total limits.after.ticks (message_field limits.after) in
     let more = drop 1 (bound_lines layout.spaces tree (trace_in sizes messages V3) limits) in
-    let plans = map planned_row p.listed in
-    (
+    let plans = map planned_row p.listed in (
       text_of (limits_lines layout.spaces tree (trace_in sizes messages V3) workers limits p.listed),
       record {
         starts = p.starts;

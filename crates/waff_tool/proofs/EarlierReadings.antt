@@ -1,5 +1,5 @@
 -- The text of a plan reads as the same plan of both versions that have clients.
-use Rattle.std.proofs.Common.{◌≡◌, ℕ, ◌+◌, Bool, true, false, List, [], ◌∷◌, drop, replicate, Option, None, Result, Ok, Err, refl, sym, ◌∙◌, ap}
+use Rattle.std.proofs.Common.{◌≡◌, ℕ, ◌+◌, Bool, true, false, List, [], ◌∷◌, drop, replicate, Option, None, Result, Ok, Err, refl, ◌∙◌, ap}
 use Rattle.std.specs.Prelude.{if◌then◌else◌}
 use Rattle.waff_model.specs.Tree.{Node}
 use Rattle.waff_model.specs.declared.message.Version.{Version}
@@ -15,7 +15,6 @@ use Rattle.waff_plan_text.specs.Spelling.{plan_lines, summary_lines}
 use Rattle.waff_plan_text.specs.Summaries.{begins_summary, summary_of}
 use Rattle.waff_plan_text.specs.declared.refusal.PlanTextError.{PlanTextError}
 use Rattle.waff_plan_text.specs.declared.refusal.PlanTextError.TheVariants as error
-use Rattle.waff_plan_text.specs.declared.row.NumberedRow.{NumberedRow}
 use Rattle.waff_plan_text.specs.declared.row.Row.{Row}
 
 -- the two versions, from the later to the earlier one or back

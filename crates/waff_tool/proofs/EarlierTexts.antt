@@ -1,14 +1,12 @@
 -- What is told of a trace of the fourth version without lists is told of the same trace of the third, and back.
-use Rattle.std.proofs.Common.{◌≡◌, ◌↔◌, ℕ, zero, suc, ◌⊎◌, inl, inr, Bool, true, false, List, [], ◌∷◌, ◌++◌, map, Option, Some, None, Ok, refl, sym, ◌∙◌, ap, subst, append_assoc}
-use Rattle.waff_model.specs.Layout.{Hierarchy, Space}
+use Rattle.std.proofs.Common.{◌≡◌, ℕ, false, List, Option, Some, None, ◌∙◌, ap}
+use Rattle.waff_model.specs.Layout.{Hierarchy}
 use Rattle.waff_model.specs.Messages.{Arrivals}
 use Rattle.waff_model.specs.Tree.{Node}
 use Rattle.waff_model.specs.declared.kind.Kind.{Kind}
 use Rattle.waff_model.specs.declared.message.Message.{Message}
 use Rattle.waff_model.specs.declared.message.Version.{Version}
-use Rattle.waff_model.specs.declared.message.Version.TheVariants.{V3, V4}
 use Rattle.waff_assign.specs.Instance.{Instance}
-use Rattle.waff_plan.specs.Instances.{work_of_instance}
 use Rattle.waff_plan.specs.Timetable.{work_of_messages}
 use Rattle.waff_plan.specs.Timing.{start_of}
 use Rattle.waff_plan.specs.Work.{Work}
@@ -30,14 +28,13 @@ use Rattle.waff_tool.specs.Certificates.{IsBounded, IsCertified, IsChained}
 use Rattle.waff_tool.specs.Comparison.{AreCertifiedTotals, AreListTotals, IsCompared, IsMeasured}
 use Rattle.waff_tool.specs.Earlier.{asks_limits}
 use Rattle.waff_tool.specs.Figures.{TellsSweep}
-use Rattle.waff_tool.specs.LimitsText.{TellsLimits}
 use Rattle.waff_tool.specs.NeedsText.{TellsNeeds}
 use Rattle.waff_tool.specs.PlanText.{TellsLeastPlan, TellsPlan, TellsWorkerPlan}
 use Rattle.waff_tool.specs.Ranks.{IsRankedUnder}
 use Rattle.waff_tool.specs.Rate.{AreRated}
 use Rattle.waff_tool.specs.Told.{Tells, numbers_or}
 use Rattle.waff_tool.specs.WaitsText.{IsPlanFor, TellsWaits}
-use Rattle.waff_tool.specs.WhereText.{TellsAffinities, TellsNames, TellsSpent, TellsWhere}
+use Rattle.waff_tool.specs.WhereText.{TellsSpent, TellsWhere}
 use Rattle.waff_tool.specs.WhyText.{TellsWhy}
 use Rattle.waff_tool.specs.WorstText.{TellsWorst}
 use Rattle.waff_tool.specs.declared.measures.Measured.{Measured}
@@ -61,19 +58,47 @@ module _ (tree : List Node) (assigned sizes : List ℕ) (messages : List Message
   -- plans with their printed chains
   certified : {v w : Version} → Both v w → (start : ℕ → ℕ) (chain : List ℕ) → IsCertified (in_version v) start chain → IsCertified (in_version w) start chain
   certified down start chain p = record {
-    least = p.least; printed = p.printed; alike = p.alike; shortest = p.shortest; is_chain = p.is_chain; as_long = p.as_long; certificate = p.certificate
+    least = p.least;
+    printed = p.printed;
+    alike = p.alike;
+    shortest = p.shortest;
+    is_chain = p.is_chain;
+    as_long = p.as_long;
+    certificate = p.certificate;
   }
   certified up start chain p = record {
-    least = p.least; printed = p.printed; alike = p.alike; shortest = p.shortest; is_chain = p.is_chain; as_long = p.as_long; certificate = p.certificate
+    least = p.least;
+    printed = p.printed;
+    alike = p.alike;
+    shortest = p.shortest;
+    is_chain = p.is_chain;
+    as_long = p.as_long;
+    certificate = p.certificate;
   }
 
   bounded : {v w : Version} → Both v w → (rule : Rule) (k : ℕ) (start : ℕ → ℕ) (chain : List ℕ) → IsBounded rule (in_version v) k start chain
       → IsBounded rule (in_version w) k start chain
   bounded down rule k start chain p = record {
-    list = p.list; obeys = p.obeys; at_once = p.at_once; printed = p.printed; is_chain = p.is_chain; alike = p.alike; bound = p.bound; twice = p.twice; ratio = p.ratio
+    list = p.list;
+    obeys = p.obeys;
+    at_once = p.at_once;
+    printed = p.printed;
+    is_chain = p.is_chain;
+    alike = p.alike;
+    bound = p.bound;
+    twice = p.twice;
+    ratio = p.ratio;
   }
   bounded up rule k start chain p = record {
-    list = p.list; obeys = p.obeys; at_once = p.at_once; printed = p.printed; is_chain = p.is_chain; alike = p.alike; bound = p.bound; twice = p.twice; ratio = p.ratio
+    list = p.list;
+    obeys = p.obeys;
+    at_once = p.at_once;
+    printed = p.printed;
+    is_chain = p.is_chain;
+    alike = p.alike;
+    bound = p.bound;
+    twice = p.twice;
+    ratio = p.ratio;
   }
 
   chained : {v w : Version} → Both v w → (rule : Rule) (workers : Option ℕ) (start : ℕ → ℕ) (chain : List ℕ)
@@ -120,12 +145,24 @@ module _ (tree : List Node) (assigned sizes : List ℕ) (messages : List Message
   sweep : {v w : Version} → Both v w → (rule : Rule) (workers text : List ℕ) → TellsSweep rule workers (in_version v) text
       → TellsSweep rule workers (in_version w) text
   sweep down rule workers text p = record {
-    starts = p.starts; listed = p.listed; unlimited = p.unlimited; least = p.least; are_listed = are_listed down rule _ workers p.listed p.are_listed;
-    are_unlimited = p.are_unlimited; bound = p.bound; lines = p.lines
+    starts = p.starts;
+    listed = p.listed;
+    unlimited = p.unlimited;
+    least = p.least;
+    are_listed = are_listed down rule _ workers p.listed p.are_listed;
+    are_unlimited = p.are_unlimited;
+    bound = p.bound;
+    lines = p.lines;
   }
   sweep up rule workers text p = record {
-    starts = p.starts; listed = p.listed; unlimited = p.unlimited; least = p.least; are_listed = are_listed up rule _ workers p.listed p.are_listed;
-    are_unlimited = p.are_unlimited; bound = p.bound; lines = p.lines
+    starts = p.starts;
+    listed = p.listed;
+    unlimited = p.unlimited;
+    least = p.least;
+    are_listed = are_listed up rule _ workers p.listed p.are_listed;
+    are_unlimited = p.are_unlimited;
+    bound = p.bound;
+    lines = p.lines;
   }
 
   -- `waits`
@@ -139,34 +176,66 @@ module _ (tree : List Node) (assigned sizes : List ℕ) (messages : List Message
   waits : {v w : Version} → Both v w → (rule : Rule) (workers : Option ℕ) (grouping : Grouping) (text : List ℕ)
       → TellsWaits rule workers grouping (in_version v) text → TellsWaits rule workers grouping (in_version w) text
   waits down rule workers grouping text p = record {
-    starts = p.starts; waits = p.waits; rows = p.rows; planned = plan_for down rule workers (start_of p.starts) p.planned;
-    are_waits = p.are_waits; are_rows = p.are_rows; adds_up = p.adds_up; lines = p.lines
+    starts = p.starts;
+    waits = p.waits;
+    rows = p.rows;
+    planned = plan_for down rule workers (start_of p.starts) p.planned;
+    are_waits = p.are_waits;
+    are_rows = p.are_rows;
+    adds_up = p.adds_up;
+    lines = p.lines;
   }
   waits up rule workers grouping text p = record {
-    starts = p.starts; waits = p.waits; rows = p.rows; planned = plan_for up rule workers (start_of p.starts) p.planned;
-    are_waits = p.are_waits; are_rows = p.are_rows; adds_up = p.adds_up; lines = p.lines
+    starts = p.starts;
+    waits = p.waits;
+    rows = p.rows;
+    planned = plan_for up rule workers (start_of p.starts) p.planned;
+    are_waits = p.are_waits;
+    are_rows = p.are_rows;
+    adds_up = p.adds_up;
+    lines = p.lines;
   }
 
   worst : {v w : Version} → Both v w → (rule : Rule) (workers : Option ℕ) (most : ℕ) (text : List ℕ)
       → TellsWorst rule workers most (in_version v) text → TellsWorst rule workers most (in_version w) text
   worst down rule workers most text p = record {
-    starts = p.starts; waited = p.waited; worst = p.worst; planned = plan_for down rule workers (start_of p.starts) p.planned;
-    are_waited = p.are_waited; are_worst = p.are_worst; lines = p.lines
+    starts = p.starts;
+    waited = p.waited;
+    worst = p.worst;
+    planned = plan_for down rule workers (start_of p.starts) p.planned;
+    are_waited = p.are_waited;
+    are_worst = p.are_worst;
+    lines = p.lines;
   }
   worst up rule workers most text p = record {
-    starts = p.starts; waited = p.waited; worst = p.worst; planned = plan_for up rule workers (start_of p.starts) p.planned;
-    are_waited = p.are_waited; are_worst = p.are_worst; lines = p.lines
+    starts = p.starts;
+    waited = p.waited;
+    worst = p.worst;
+    planned = plan_for up rule workers (start_of p.starts) p.planned;
+    are_waited = p.are_waited;
+    are_worst = p.are_worst;
+    lines = p.lines;
   }
 
   -- `where`
   spent : (v w : Version) (label : Option Label) (columns : Columns) (start : ℕ → ℕ) (chain text : List ℕ)
       → TellsSpent label columns (in_version v) start chain text → TellsSpent label columns (in_version w) start chain text
   spent v w None columns start chain text p = record {
-    below = p.below; parts = p.parts; are_below = p.are_below; are_parts = p.are_parts; costs_add_up = p.costs_add_up; chain_adds_up = p.chain_adds_up;
-    waits_add_up = p.waits_add_up; lines = p.lines
+    below = p.below;
+    parts = p.parts;
+    are_below = p.are_below;
+    are_parts = p.are_parts;
+    costs_add_up = p.costs_add_up;
+    chain_adds_up = p.chain_adds_up;
+    waits_add_up = p.waits_add_up;
+    lines = p.lines;
   }
   spent v w (Some label) columns start chain text p = record {
-    parts = p.parts; are_parts = p.are_parts; names_add_up = p.names_add_up; waits_add_up = p.waits_add_up; lines = p.lines
+    parts = p.parts;
+    are_parts = p.are_parts;
+    names_add_up = p.names_add_up;
+    waits_add_up = p.waits_add_up;
+    lines = p.lines;
   }
 
   spends : {v w : Version} → Both v w → (rule : Rule) (workers : Option ℕ) (label : Option Label) (columns : Columns) (text : List ℕ)
@@ -185,8 +254,13 @@ module _ (tree : List Node) (assigned sizes : List ℕ) (messages : List Message
   why : (v w : Version) (grouping : Grouping) (layout : Hierarchy) (text : List ℕ) → TellsWhy grouping layout (in_version v) text
       → TellsWhy grouping layout (in_version w) text
   why v w grouping layout text p = record {
-    lifts = p.lifts; rows = p.rows; are_lifts = p.are_lifts; are_rows = p.are_rows; messages_add_up = p.messages_add_up; costs_add_up = p.costs_add_up;
-    lines = p.lines
+    lifts = p.lifts;
+    rows = p.rows;
+    are_lifts = p.are_lifts;
+    are_rows = p.are_rows;
+    messages_add_up = p.messages_add_up;
+    costs_add_up = p.costs_add_up;
+    lines = p.lines;
   }
 
   -- all that is asked, but what limits
@@ -205,19 +279,35 @@ module _ (tree : List Node) (assigned sizes : List ℕ) (messages : List Message
   -- `limits`
   pub limits_of : {v w : Version} → Both v w → (start : ℕ → ℕ) (limits : Limits) → AreLimits (in_version v) start limits → AreLimits (in_version w) start limits
   limits_of both start limits p = record {
-    total = p.total; client = p.client; after = p.after; writes = p.writes; cell = p.cell; path = p.path; order = p.order
+    total = p.total;
+    client = p.client;
+    after = p.after;
+    writes = p.writes;
+    cell = p.cell;
+    path = p.path;
+    order = p.order;
   }
 
   -- `rank`
   pub ranked : {v w : Version} → Both v w → (rule : Rule) (kind : Kind) (k : ℕ) (found : Ranked) → IsRankedUnder rule kind k (in_version v) found
       → IsRankedUnder rule kind k (in_version w) found
   ranked down rule kind k found p = record {
-    starts = p.starts; kind_is = p.kind_is; affinities = p.affinities; least = p.least; shortest = p.shortest;
-    listed = listed down rule found.length found.listed p.listed; workers = p.workers
+    starts = p.starts;
+    kind_is = p.kind_is;
+    affinities = p.affinities;
+    least = p.least;
+    shortest = p.shortest;
+    listed = listed down rule found.length found.listed p.listed;
+    workers = p.workers;
   }
   ranked up rule kind k found p = record {
-    starts = p.starts; kind_is = p.kind_is; affinities = p.affinities; least = p.least; shortest = p.shortest;
-    listed = listed up rule found.length found.listed p.listed; workers = p.workers
+    starts = p.starts;
+    kind_is = p.kind_is;
+    affinities = p.affinities;
+    least = p.least;
+    shortest = p.shortest;
+    listed = listed up rule found.length found.listed p.listed;
+    workers = p.workers;
   }
 
   -- `rate`
@@ -247,16 +337,30 @@ module _ (sizes : List ℕ) (messages : List Message) where
   pub compared : {v w : Version} → Both v w → (classical hierarchical : Hierarchy) (k : ℕ) (text : List ℕ)
       → IsCompared classical hierarchical (trace_in sizes messages v) k text → IsCompared classical hierarchical (trace_in sizes messages w) k text
   compared down classical hierarchical k text p = record {
-    coarse = p.coarse; fine = p.fine; of_classical = p.of_classical; of_hierarchical = p.of_hierarchical; refined = p.refined;
-    coarse_assignment = p.coarse_assignment; fine_assignment = p.fine_assignment;
+    coarse = p.coarse;
+    fine = p.fine;
+    of_classical = p.of_classical;
+    of_hierarchical = p.of_hierarchical;
+    refined = p.refined;
+    coarse_assignment = p.coarse_assignment;
+    fine_assignment = p.fine_assignment;
     classical_measured = measured down classical p.coarse k p.of_classical p.classical_measured;
     hierarchical_measured = measured down hierarchical p.fine k p.of_hierarchical p.hierarchical_measured;
-    told = p.told; no_longer = p.no_longer; lines = p.lines
+    told = p.told;
+    no_longer = p.no_longer;
+    lines = p.lines;
   }
   compared up classical hierarchical k text p = record {
-    coarse = p.coarse; fine = p.fine; of_classical = p.of_classical; of_hierarchical = p.of_hierarchical; refined = p.refined;
-    coarse_assignment = p.coarse_assignment; fine_assignment = p.fine_assignment;
+    coarse = p.coarse;
+    fine = p.fine;
+    of_classical = p.of_classical;
+    of_hierarchical = p.of_hierarchical;
+    refined = p.refined;
+    coarse_assignment = p.coarse_assignment;
+    fine_assignment = p.fine_assignment;
     classical_measured = measured up classical p.coarse k p.of_classical p.classical_measured;
     hierarchical_measured = measured up hierarchical p.fine k p.of_hierarchical p.hierarchical_measured;
-    told = p.told; no_longer = p.no_longer; lines = p.lines
+    told = p.told;
+    no_longer = p.no_longer;
+    lines = p.lines;
   }
