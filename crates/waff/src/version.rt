@@ -7,4 +7,4 @@ pub const VERSION: &str = "0.1.0";
 pub const LONG_VERSION: &str = "\
 0.1.0
 logic: dac8208d650f15bf
-sources: 2649e5f2b3b538be";
+sources: 78d9a7958d18685c";
