@@ -25,6 +25,10 @@ def trace_of(asked: Namespace, read: model.Log) -> str:
     if not found.requests:
         found.report(0)
         raise Refusal(3, "the log has no request that is kept, so there is no trace")
+    if found.order is not None and asked.is_usual_order and not found.order.has_waits(found.requests):
+        # Nobody waits for another, so lists would be empty.
+        found.said += order.warnings(found.order)
+        found.order, asked.order = None, "none"
     table = prices.prices_of(asked)
     measured = is_measured(asked, found, table)
     loop = clients.loop_of(asked, kind, found.requests, prices.took_of(table))

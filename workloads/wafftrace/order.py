@@ -15,8 +15,8 @@ from .order_walk import KINDS, Named, Tally, Walk
 from .prices import keeping_thinks
 from .processes import Who
 
-# What `--order` is without this word. The program reads no traces of version 4 yet; when it does, this is `all`.
-USUAL = "none"
+# What `--order` is without this word, where clients are what waits.
+USUAL = "all"
 # What stands behind a call that strace was told to delay.
 DELAYED = "(DELAYED)"
 
@@ -106,6 +106,12 @@ class Order:
         self.backwards = 0
         self.number = {id(it): at for at, it in enumerate(requests)}
 
+    def has_waits(self, kept: Sequence[Request]) -> bool:
+        """Whether the log shows a wait, or one of these requests comes behind another one of them."""
+        found = bool(+self.tally.explained) or any(it.after for it in self.items(kept))
+        self.backwards = 0
+        return found
+
     def items(self, kept: Sequence[Request]) -> Iterator[Item]:
         """These requests, in the order in which they began."""
         numbers = sorted((self.number[id(it)] for it in kept), key=lambda at: (self.requests[at].time, self.begun[at], at))
@@ -158,6 +164,12 @@ def told(order: Order, lists: Lists) -> list[str]:
         lines.append(f"gaps above {limits.THINK} ticks, which were cut to that: {lists.cut} (--tick {keeping_thinks(lists.longest)} keeps them)")
     if order.backwards:
         lines.append(f"{counted(order.backwards, 'edges')} left out, to requests that the clock of the log tells to be later")
+    return lines + warnings(order)
+
+
+def warnings(order: Order) -> list[str]:
+    """What the log cannot tell of the order."""
+    tally, lines = order.tally, list[str]()
     if tally.has_threads and not order.is_delayed:
         lines.append("WARNING: threads share memory, and a lock that is free shows in no log: the order may lack edges (record slow: workloads/README.md)")
     if tally.without_peer:
