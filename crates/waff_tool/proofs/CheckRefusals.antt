@@ -9,7 +9,7 @@ use Rattle.waff_plan_text.specs.Given.{Given}
 use Rattle.waff_plan_text.specs.PlanTexts.{Tells, plan_of}
 use Rattle.waff_plan_text.specs.declared.refusal.PlanTextError.{PlanTextError}
 use Rattle.waff_plan_text.specs.declared.refusal.PlanTextError.TheVariants as text
-use Rattle.waff_inputs.specs.Inputs.{Accepts, IsRefusal, Refuses, TellsOfFiles, files_of}
+use Rattle.waff_inputs.specs.Inputs.{Accepts, Refuses, TellsOfFiles, files_of}
 use Rattle.waff_inputs.specs.ToolErrors.{plan_text_error}
 use Rattle.waff_inputs.specs.declared.fault.ToolError.{ToolError}
 use Rattle.waff_inputs.specs.declared.fault.ToolError.TheVariants as tool

@@ -1,5 +1,5 @@
 -- Two hierarchies on one trace.
-use Rattle.std.proofs.Common.{◌≡◌, ℕ, ◌≤◌, Bool, true, false, subst, List, [], ◌∷◌, ◌++◌, decimal, inl, append_assoc, rules}
+use Rattle.std.proofs.Common.{◌≡◌, ℕ, ◌≤◌, Bool, true, false, subst, List, [], ◌∷◌, ◌++◌, decimal, append_assoc, rules}
 use Rattle.std.specs.List.{join_with_byte}
 use Rattle.waff_model.specs.Layout.{Hierarchy}
 use Rattle.waff_model.specs.Tree.{Node}

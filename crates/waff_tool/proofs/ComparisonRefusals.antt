@@ -2,7 +2,6 @@
 use Rattle.std.proofs.Common.{◌≡◌, ℕ, inl, inr, ◌==◌, Bool, true, false, cond, List, Result, Ok, Err, length, refl, sym, ◌∙◌, ap, arith, eq-eqb}
 use Rattle.std.proofs.lemmas.Bool.{and_parts}
 use Rattle.std.proofs.lemmas.Bool.Decides.{nat_tests}
-use Rattle.std.specs.List.{list_all, zip}
 use Rattle.waff_parse.specs.Refusals.{◌>>=◌, told}
 use Rattle.waff_model.proofs.SpaceLemmas.{same_pass, spaces_pass}
 use Rattle.waff_model.specs.Layout.{Hierarchy, SameSpaces}
@@ -15,7 +14,7 @@ use Rattle.waff_inputs.specs.Inputs.{IsRefusal, RefusesHierarchy, TellsOfFiles, 
 use Rattle.waff_inputs.specs.declared.fault.ToolError.{ToolError}
 use Rattle.waff_inputs.specs.declared.fault.ToolError.TheVariants as tool
 use Rattle.waff_inputs.proofs.Refusals.{first_refuses, no_refusal, one_refusal, second_refuses}
-use Rattle.waff_tool.specs.Comparison.{AreModels, IsCompareText, RefusesComparison, as_models, by_kind, compared_files, have_same_spaces, models_in}
+use Rattle.waff_tool.specs.Comparison.{AreModels, RefusesComparison, as_models, by_kind, compared_files, have_same_spaces, models_in}
 use Rattle.waff_tool.specs.Unique.{ComparedIsNotRefused}
 
 -- what is read behind the first hierarchy, and behind both

@@ -7,7 +7,6 @@ use Rattle.waff_tool.proofs.CheckRefusals.{checked_is_read}
 use Rattle.waff_tool.proofs.CheckUniqueness.{check_text_is_one}
 use Rattle.waff_tool.specs.CheckText.{checked_files}
 use Rattle.waff_tool.specs.Explanations.{Explains, IsExplained, OfPlan}
-use Rattle.waff_tool.specs.declared.explains.Explained.{Explained}
 use Rattle.waff_tool.specs.declared.explains.Explained.TheVariants as explained
 
 same_fault : {A : Type 0} (read : Result A ToolError) (one other : ToolError) → read ≡ Err one → read ≡ Err other → one ≡ other

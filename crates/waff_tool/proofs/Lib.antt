@@ -4,6 +4,10 @@ pub mod CheckRefusals
 pub mod CheckUniqueness
 mod ComparisonLemmas
 pub mod ComparisonRefusals
+mod EarlierReadings
+mod EarlierTexts
+mod EarlierChecks
+mod EarlierLaws
 mod ExplainedFaults
 pub mod ExplainedLaws
 mod ExplainedLines

@@ -1,5 +1,5 @@
 -- The text of what limits a workload is one, and what it says of all plans.
-use Rattle.std.proofs.Common.{◌≡◌, ℕ, zero, suc, ◌<◌, ◌≤◌, ◌⊎◌, inl, inr, Bool, true, false, List, [], ◌∷◌, ◌++◌, All, length, map, Option, Some, None, IfSome, Contains, refl, sym, ◌∙◌, ap, subst, arith}
+use Rattle.std.proofs.Common.{◌≡◌, ℕ, zero, suc, ◌≤◌, ◌⊎◌, inl, inr, true, false, List, [], ◌∷◌, ◌++◌, Option, Some, None, Contains, sym, ◌∙◌, ap, subst, arith}
 use Rattle.std.proofs.lemmas.List.Elements.{Contains-append_cases}
 use Rattle.waff_model.specs.Messages.{Arrivals}
 use Rattle.waff_model.specs.Unique.{AtMostOne}
@@ -12,7 +12,7 @@ use Rattle.waff_read.proofs.LimitLaws.{layout_is_within_limits, trace_is_within_
 use Rattle.waff_assign.specs.Instance.{Instance, before_in}
 use Rattle.waff_plan.specs.Instances.{work_of_instance}
 use Rattle.waff_plan.specs.LowerBound.{lower_bound_of}
-use Rattle.waff_plan.specs.Obeys.{IsLeast, Obeys}
+use Rattle.waff_plan.specs.Obeys.{Obeys}
 use Rattle.waff_plan.specs.Serving.{served_before}
 use Rattle.waff_plan.specs.Timing.{start_of}
 use Rattle.waff_plan.specs.Work.{length_of}
@@ -25,14 +25,12 @@ use Rattle.waff_figures.specs.Figures.{AreFigures}
 use Rattle.waff_figures.specs.declared.figures.Figures.{Figures}
 use Rattle.waff_limits.specs.Data.{IsMostOf, ticks_on}
 use Rattle.waff_limits.specs.Laws.{AfterIsNotBelow, IsUnder, KeepsOrderWhere, NoListsAddNothing, PathIsReached, greatest_limit}
-use Rattle.waff_limits.specs.Limits.{AreLimits, limits_lines, ticks_of}
+use Rattle.waff_limits.specs.Limits.{limits_lines, ticks_of}
 use Rattle.waff_limits.specs.Writes.{ticks_shared}
 use Rattle.waff_limits.proofs.Sharing.{writes_below}
-use Rattle.waff_limits.specs.declared.limits.Limits.{Limits}
 use Rattle.waff_limits.proofs.LimitLaws.{cell_below, is_lower_bound, limits_are_one, most_of_is_one, none_below, not_below, shortest}
 use Rattle.waff_inputs.proofs.SameInput.{same_ok}
-use Rattle.waff_tool.specs.Figures.{IsSweepText}
-use Rattle.waff_tool.specs.LimitsText.{AfterIsBetween, AfterIsBetweenInText, DataBounds, DataBoundsTexts, IsLimitsText, LimitsAreSwept, NoneIsBelowText, OrderIsBetween, OrderIsBetweenInText, OrderIsShortestInText, TellsLimits, TreeIsReachedInText}
+use Rattle.waff_tool.specs.LimitsText.{AfterIsBetweenInText, DataBoundsTexts, IsLimitsText, LimitsAreSwept, NoneIsBelowText, OrderIsBetween, OrderIsBetweenInText, OrderIsShortestInText, TellsLimits, TreeIsReachedInText}
 use Rattle.waff_tool.proofs.CertificateLemmas.{busy_served}
 use Rattle.waff_tool.proofs.FigureUniqueness.{listed_is_one, told_swept}
 use Rattle.waff_tool.proofs.PlanUniqueness.{IsSound, least_in_one}

@@ -1,5 +1,5 @@
 -- Of the same files one error tells why a replay refuses them, and none where they are replayed.
-use Rattle.std.proofs.Common.{◌≡◌, ℕ, inl, inr, nat_lt, cond, List, Result, Ok, Err, sum_by, ◌∙◌, ap}
+use Rattle.std.proofs.Common.{◌≡◌, ℕ, inl, inr, cond, List, Result, Ok, Err, sum_by, ◌∙◌, ap}
 use Rattle.std.proofs.lemmas.Bool.{cases_lt, le-ltb, lt-ltb}
 use Rattle.waff_parse.specs.Refusals.{◌>>=◌, told}
 use Rattle.waff_model.specs.Layout.{Hierarchy, HasFewCells, Space}

@@ -6,8 +6,6 @@ use Rattle.waff_model.specs.Messages.{Arrivals}
 use Rattle.waff_model.specs.Tree.{IsTree}
 use Rattle.waff_model.specs.Unique.{AtMostOne}
 use Rattle.waff_model.specs.declared.kind.Kind.{Kind}
-use Rattle.waff_model.specs.declared.kind.Kind.TheVariants as kind
-use Rattle.waff_read.specs.Hierarchies.{hierarchy_of}
 use Rattle.waff_inputs.specs.Known.{newest, trace_of}
 use Rattle.waff_read.proofs.LimitLaws.{trace_is_within_limits}
 use Rattle.waff_assign.specs.Instance.{Instance}

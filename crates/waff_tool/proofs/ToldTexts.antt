@@ -6,7 +6,7 @@ use Rattle.waff_assign.specs.Instance.{Instance}
 use Rattle.waff_figures.specs.Sweep.{sweep_workers}
 use Rattle.waff_figures.specs.declared.told.Told.{Told}
 use Rattle.waff_figures.specs.declared.told.Told.TheVariants as told
-use Rattle.waff_inputs.specs.Inputs.{Accepts, IsToldUnder}
+use Rattle.waff_inputs.specs.Inputs.{IsToldUnder}
 use Rattle.waff_inputs.proofs.SameInput.{told_under_is_one}
 use Rattle.waff_tool.specs.Told.{Tells, numbers_or}
 use Rattle.waff_tool.proofs.FigureUniqueness.{sweep_is_one}

@@ -1,5 +1,5 @@
 -- What was told of the worst messages of a plan is the text of the files, and there is one.
-use Rattle.std.proofs.Common.{◌≡◌, ℕ, List, ◌∷◌, Option, sym, ◌∙◌, ap, subst}
+use Rattle.std.proofs.Common.{◌≡◌, ℕ, List, Option, sym, ◌∙◌, ap, subst}
 use Rattle.waff_model.specs.Unique.{AtMostOne}
 use Rattle.waff_model.specs.declared.message.Version.{Version}
 use Rattle.waff_assign.specs.Instance.{Instance}

@@ -5,6 +5,7 @@ pub mod Certificates
 pub mod CheckText
 pub mod Comparison
 pub mod DrawText
+pub mod Earlier
 pub mod Explanations
 pub mod Figures
 pub mod LimitsText

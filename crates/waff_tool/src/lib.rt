@@ -16,7 +16,7 @@
 //! - `explains` (explain): the fault or the verdict that the others find, in words.
 //! - `unique`, and the laws of `told`, `rates`, `ranks` and `draws`: one text or one fault for each input;
 //!   those of `limits`, `wheres` and `waits`: what texts say of each other; `own`: plans that are
-//!   printed pass the check.
+//!   printed pass the check; `earlier`: without lists a trace of version 4 has the texts of version 3.
 //!
 //! Where a call answers Ok, what it wrote is the text of these bytes and nothing else; `Delivers`
 //! (waff_inputs) says what it wrote elsewhere. Of the same bytes each text is unique, and so are
@@ -34,6 +34,7 @@ mod certificates;
 mod checks;
 mod comparison;
 pub mod draws;
+pub mod earlier;
 mod explains;
 pub mod limits;
 mod measures;

@@ -1,6 +1,5 @@
 use Rattle.std.proofs.Common.{◌∙◌, ap}
 use Rattle.std.proofs.lemmas.Result.{IfOk-weaker}
-use Rattle.waff_assign.specs.Case.{instance_of}
 use Rattle.waff_plan_text.specs.Lines.{text_of}
 use Rattle.waff_limits.specs.Limits.{limits_lines}
 use Rattle.waff_tool.proofs.CertificateLemmas.{as_many}

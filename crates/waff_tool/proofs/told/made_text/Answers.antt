@@ -1,4 +1,4 @@
-use Rattle.std.proofs.Common.{rules, sym, subst, string_bytes}
+use Rattle.std.proofs.Common.{rules, subst, string_bytes}
 use Rattle.waff_model.specs.Layout.{Hierarchy}
 use Rattle.waff_read.specs.Hierarchies.{hierarchy_of}
 use Rattle.waff_assign.specs.Lowest.{IsAssignment}

@@ -4,12 +4,11 @@ use Rattle.std.proofs.lemmas.Result.{IfOk-weaker}
 use Rattle.waff_assign.specs.Case.{instance_of}
 use Rattle.waff_plan.specs.Instances.{work_of_instance}
 use Rattle.waff_plan.specs.Planned.{planned_starts}
-use Rattle.waff_plan.specs.Timetable.{timings_of}
 use Rattle.waff_plan.specs.Timing.{work_of}
 use Rattle.waff_plan.specs.declared.timing.Timing.{Timing}
 use Rattle.waff_plan_text.specs.Lines.{text_of}
 use Rattle.waff_figures.specs.ByAffinity.{AreCostsBelow, affinities_lines, runs_in}
-use Rattle.waff_figures.specs.Parts.{AreOfParts, AreTheParts}
+use Rattle.waff_figures.specs.Parts.{AreTheParts}
 use Rattle.waff_figures.specs.declared.parts.PartFigures.{PartFigures}
 use Rattle.waff_tool.proofs.wheres.text_by_affinity.Goals as goal
 

@@ -1,7 +1,6 @@
-use Rattle.std.proofs.Common.{◌≡◌, ℕ, List, length, string_bytes, sym, ◌∙◌, ap, subst}
+use Rattle.std.proofs.Common.{◌≡◌, ℕ, List, length, string_bytes, sym, ◌∙◌, subst}
 use Rattle.std.proofs.lemmas.Result.{IfOk-weaker}
 use Rattle.waff_assign.specs.Case.{instance_of}
-use Rattle.waff_plan.specs.Chain.{IsAmongFirst}
 use Rattle.waff_plan.specs.Instances.{work_of_instance}
 use Rattle.waff_plan.specs.Planned.{planned_starts}
 use Rattle.waff_plan.specs.Timing.{work_of}

@@ -1,4 +1,4 @@
-use Rattle.std.proofs.Common.{List, ℕ, length, string_bytes, sym, subst}
+use Rattle.std.proofs.Common.{length, string_bytes, sym, subst}
 use Rattle.std.proofs.lemmas.Result.{IfOk-weaker}
 use Rattle.waff_assign.specs.Case.{instance_of}
 use Rattle.waff_plan.specs.Chain.{IsListed}

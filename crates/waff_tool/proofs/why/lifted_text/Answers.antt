@@ -1,4 +1,4 @@
-use Rattle.std.proofs.Common.{◌≡◌, ap, ◌∙◌, string_bytes, subst, sym}
+use Rattle.std.proofs.Common.{ap, ◌∙◌, string_bytes, subst, sym}
 use Rattle.std.proofs.lemmas.Result.{IfOk-weaker}
 use Rattle.waff_assign.specs.Case.{instance_of}
 use Rattle.waff_assign.specs.Instance.{Instance}
