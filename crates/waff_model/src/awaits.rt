@@ -4,6 +4,7 @@ ghost use Rattle.std.specs.Prelude.{◌≡◌, [], IfOk};
 
 use std::alloc::{AllocError, Global};
 use std::marker::Model;
+use std::sync::Arc;
 
 /// A message that another awaits, and how many ticks after its finish the other is issued at the soonest.
 #[derive(Clone, Copy, Debug, PartialEq)]
@@ -15,9 +16,9 @@ pub struct Await {
 }
 
 /// The messages that a message awaits by its list. A list lies elsewhere, so that the many messages that have
-/// none are hardly longer for it.
+/// none are hardly longer for it, and copies share it.
 pub struct Awaits {
-    list: Option<Box<Vec<Await>>>,
+    list: Option<Arc<Vec<Await>>>,
 }
 
 impl Model for Awaits {
@@ -53,16 +54,18 @@ impl Awaits {
             return Ok(Awaits::none());
         }
         Ok(Awaits {
-            list: Some(Box::new(alloc, list)?),
+            list: Some(Arc::new(alloc, list)?),
         })
     }
 
     /// The same messages.
-    pub fn copy(&self, alloc: Global) -> Result<Self, AllocError>
+    pub fn share(&self) -> Result<Self, AllocError>
         ensures { IfOk result (λ awaits. awaits ≡ self.now) }
     {
         match &self.list {
-            Some(list) => Awaits::of(alloc, Vec::from_slice(alloc, list.as_slice())?),
+            Some(list) => Ok(Awaits {
+                list: Some(Arc::try_clone(list)?),
+            }),
             None => Ok(Awaits::none()),
         }
     }

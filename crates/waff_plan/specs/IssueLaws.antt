@@ -1,12 +1,16 @@
 -- What holds of plans in the order of issue.
-use Rattle.std.specs.Prelude.{◌≡◌, ℕ, ◌<◌, ◌≤◌, ◌↔◌, ◌⊎◌, List, [], length, All}
+use Rattle.std.specs.Prelude.{◌≡◌, ℕ, ◌<◌, ◌≤◌, ◌↔◌, ◌⊎◌, List, [], ◌++◌, length, map, All}
+use Rattle.std.specs.List.{range_with_len}
 use Rattle.waff_model.specs.Messages.{no_client}
 use Rattle.waff_model.specs.declared.message.Message.{Message}
 use Rattle.waff_model.specs.Tree.{Node}
 use Rattle.waff_assign.specs.Order.{Relation, IsOrdered}
-use Rattle.waff_plan.specs.Work.{Work, IsAwaited}
+use Rattle.waff_plan.specs.Work.{Work, IsAwaited, IsNumber}
 pub use Rattle.waff_plan.specs.Obeys.{StartsIssued}
+use Rattle.waff_plan.specs.Clients.{one_before}
 use Rattle.waff_plan.specs.Obeys.{AwaitsNone}
+use Rattle.waff_plan.specs.Timetable.{clients_of, floor_of, message_of}
+use Rattle.waff_plan.specs.Timing.{await_of}
 use Rattle.waff_plan.specs.Issues.{IsIssuedBefore, IsServedBefore, IsLeastByIssue}
 use Rattle.waff_plan.specs.AtOnce.{AllStartAtOnce}
 use Rattle.waff_plan.specs.Laws.{ChainsAreWithinLength, LeastIsShortest, PrintedIsChain}
@@ -31,6 +35,31 @@ pub record IsLawful (before : Relation) (work : Work) : Type 0 where
 abbrev pub AreOfNoClient : List Message → Type 0
 AreOfNoClient messages =
     All (λ message. (message.client ≡ no_client) × ((message.think ≡ 0) × (message.after ≡ []))) messages
+
+-- message n as one of no client, whose list has all that it awaits: the one before it of its client, by its think
+-- time, and those of its own list. Its release is its floor
+abbrev pub by_list : List Message → ℕ → Message
+by_list messages n = record {
+  name = (message_of messages n).name;
+  cost = (message_of messages n).cost;
+  release = floor_of (message_of messages n) (one_before (clients_of messages) n);
+  client = no_client;
+  think = 0;
+  after = await_of (one_before (clients_of messages) n) (message_of messages n).think
+      ++ (message_of messages n).after;
+  ops = (message_of messages n).ops;
+}
+
+-- all messages like that
+abbrev pub all_by_list : List Message → List Message
+all_by_list messages = map (by_list messages) (range_with_len 1 (length messages))
+
+-- of both works each message runs as long, may start as soon and awaits the same
+pub record AreSameWork (one other : Work) : Type 0 where
+  pub count : one.count ≡ other.count
+  pub costs : (m : ℕ) → IsNumber other m → one.cost m ≡ other.cost m
+  pub floors : (m : ℕ) → IsNumber other m → one.floor m ≡ other.floor m
+  pub awaits : (m : ℕ) → IsNumber other m → one.awaits m ≡ other.awaits m
 
 -- the order of issue is total: no message is issued before itself; what is issued before another is
 -- issued before all that this one is issued before; and of two messages one is issued before the other

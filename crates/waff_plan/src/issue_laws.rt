@@ -10,7 +10,8 @@ ghost use Rattle.waff_plan.specs.Timetable.{client_work_of_messages, clients_of,
 ghost use Rattle.waff_plan.specs.Clients.{AwaitsClients, IsTheOneBefore};
 ghost use Rattle.waff_plan.specs.Obeys.{AwaitsEarlier, AwaitsNone, AwaitedOnce, IsForward};
 ghost use Rattle.waff_plan.specs.Issues.{IsServedBefore};
-ghost use Rattle.waff_plan.specs.IssueLaws.{AreOfNoClient, IssueIsTotal, IssueRises, StartsIssued, IsLawful};
+ghost use Rattle.waff_plan.specs.IssueLaws.{AreOfNoClient, AreSameWork, all_by_list};
+ghost use Rattle.waff_plan.specs.IssueLaws.{IssueIsTotal, IssueRises, StartsIssued, IsLawful};
 ghost use Rattle.waff_plan.specs.IssueLaws.{LeastStartsAtOnce, LeastByIssueIsOne, IssueIsArrival};
 
 /// By clients each message of a trace awaits the one before it of its client.
@@ -29,6 +30,12 @@ pub fn traces_await()
 pub fn no_lists_add_nothing()
     ensures { (messages : List Message) → All (λ message. message.after ≡ []) messages
         → (m : ℕ) → (work_of_messages messages).awaits m ≡ (client_work_of_messages messages).awaits m }
+{}
+
+/// The order of clients is a case of lists: each think time may as well be a piece of a list.
+pub fn clients_are_lists()
+    ensures { (messages : List Message)
+        → AreSameWork (work_of_messages (all_by_list messages)) (work_of_messages messages) }
 {}
 
 /// Messages of no client await none, and have their own releases.

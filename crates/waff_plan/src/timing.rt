@@ -72,7 +72,7 @@ pub fn timings(alloc: Global, trace: &Trace) -> Result<Vec<Timing>, AllocError>
     for n in 1..trace.len() + 1 {
         let message = trace.message(n);
         let follows = note_last(&mut last, message.client.as_str(), n)?;
-        let timing = timing_after(alloc, message, follows)?;
+        let timing = timing_after(message, follows)?;
         timings.push_reserved(timing);
     }
     Ok(timings)
@@ -101,7 +101,7 @@ fn note_last<'a>(
 }
 
 /// The timing of a message that follows the one with this number, 0 for none.
-fn timing_after(alloc: Global, message: &Message, follows: u32) -> Result<Timing, AllocError>
+fn timing_after(message: &Message, follows: u32) -> Result<Timing, AllocError>
     ensures { IfOk result (λ timing. timing ≡ timing_after message.now follows) }
 {
     let floor = if follows == 0 {
@@ -114,7 +114,7 @@ fn timing_after(alloc: Global, message: &Message, follows: u32) -> Result<Timing
         floor,
         follows,
         think: message.think,
-        after: message.after.copy(alloc)?,
+        after: message.after.share()?,
     })
 }
 

@@ -8,7 +8,6 @@ ghost use Rattle.waff_plan.specs.Serving.{served_in, started_in};
 ghost use Rattle.waff_plan.specs.Timetable.{timings_of, work_in, starts_in};
 
 use crate::Plan;
-use crate::awaiting::awaiting;
 use crate::latest::Latest;
 use crate::table::Table;
 use crate::turns::first_turns;
@@ -63,7 +62,6 @@ pub fn linked_plan(
 {
     let mut plan = Plan::unstarted(alloc, trace)?;
     let mut left = plan.len();
-    let mut waits = awaiting(alloc, plan.timings())?;
     let mut turns = first_turns(alloc, &plan)?;
     let mut table = Table::new(alloc, tree.len() as usize)?;
     let mut links = vec![in alloc; None; plan.len() as usize]?;
@@ -77,7 +75,7 @@ pub fn linked_plan(
         plan.set_start(m, start);
         let finish = plan.finish(m);
         table.note(span, Latest { finish, number: m });
-        turns.admit(&mut waits, &plan, m)?;
+        turns.admit(&plan, m)?;
     }
     Ok((plan, links))
 }

@@ -1,12 +1,13 @@
 //! The list of a message: the earlier messages that it awaits.
 
-ghost use Rattle.std.specs.Prelude.{◌≡◌, ◌+◌, ◌≤◌, option_map};
+ghost use Rattle.std.specs.Prelude.{◌≡◌, ◌+◌, ◌≤◌, Some, option_map};
 ghost use Rattle.waff_model.specs.declared.limits.TheConstants.{MAX_MESSAGES};
 ghost use Rattle.waff_parse.specs.Stopping.{Gives};
 ghost use Rattle.waff_read.specs.Awaits as awaits;
 
 use crate::place::Place;
 use crate::trace_fault::TraceFault;
+use memchr::memchr_iter;
 use std::alloc::Global;
 use waff_model::limits::MAX_THINK;
 use waff_model::{Await, Awaits};
@@ -45,7 +46,7 @@ fn read_await(before: u32, own: u32, piece: &str) -> Result<Await, TraceFault>
 
 // For how many messages of a text to make room.
 fn room_for(text: &[u8], own: u32) -> usize {
-    let spaces = text.iter().filter(|byte| **byte == b' ').count();
+    let spaces = memchr_iter(b' ', text).count();
     spaces.saturating_add(1).min(own as usize)
 }
 
@@ -70,7 +71,20 @@ fn read_list(alloc: Global, own: u32, text: &str) -> Result<Vec<Await>, Stop<Tra
     Ok(list)
 }
 
+// The list that a text spells, of the message at this place.
+fn read_awaits(alloc: Global, place: Place, text: &str) -> Result<Awaits, Stop<TraceFault>>
+    requires { place.at ≤ MAX_MESSAGES + 1 }
+    ensures { Gives (λ list. list) result (awaits.after_of place (Some text.now)) }
+{
+    let list = read_list(alloc, place.number(), text)?;
+    if place.most_awaited() < list.len() {
+        return Err(Stop::Fault(TraceFault::TooManyAfter));
+    }
+    Ok(Awaits::of(alloc, list)?)
+}
+
 /// The list of the message at this place, none where there is no field for it.
+#[inline(always)]
 pub(crate) fn read_after(
     alloc: Global,
     place: Place,
@@ -82,12 +96,6 @@ pub(crate) fn read_after(
 {
     match text {
         None => Ok(Awaits::none()),
-        Some(text) => {
-            let list = read_list(alloc, place.number(), text)?;
-            if place.most_awaited() < list.len() {
-                return Err(Stop::Fault(TraceFault::TooManyAfter));
-            }
-            Ok(Awaits::of(alloc, list)?)
-        }
+        Some(text) => read_awaits(alloc, place, text),
     }
 }

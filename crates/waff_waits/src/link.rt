@@ -4,5 +4,5 @@
 #[derive(Clone, Copy)]
 pub(crate) struct Link {
     pub message: u32,
-    pub next: usize,
+    pub next: u32,
 }

@@ -14,11 +14,11 @@ use std::marker::Model;
 #[derive(Drop)]
 pub struct Waits {
     /// The number of the link with which the trail of each message begins, 0 for none.
-    firsts: Vec<usize>,
+    firsts: Vec<u32>,
     /// The links of all trails, numbered from 1.
     links: Vec<Link>,
     /// How much each message waits for.
-    left: Vec<usize>,
+    left: Vec<u32>,
     finished: Vec<bool>,
 }
 
@@ -101,7 +101,7 @@ impl Waits {
         self.left[m as usize - 1] == 0
     }
 
-    /// Message `m` waits for message `i`.
+    /// Message `m` waits for message `i`. Links have numbers of 32 bits: there is no room for more of them.
     fn wait(&mut self, i: u32, m: u32) -> Result<(), AllocError>
         requires awaited { IsAmongFirst (length self.old.awaited) i }
         requires number { IsAmongFirst (length self.old.awaited) m }
@@ -110,9 +110,12 @@ impl Waits {
           finished = self.old.finished;
         }) }
     {
+        let Ok(number) = u32::try_from(self.links.len() + 1) else {
+            return Err(AllocError);
+        };
         let next = self.firsts[i as usize - 1];
         self.links.push(Link { message: m, next })?;
-        self.firsts[i as usize - 1] = self.links.len();
+        self.firsts[i as usize - 1] = number;
         self.left[m as usize - 1] += 1;
         Ok(())
     }
@@ -128,7 +131,7 @@ impl Waits {
         if at == 0 {
             return None;
         }
-        let link = self.links[at - 1];
+        let link = self.links[at as usize - 1];
         self.firsts[i as usize - 1] = link.next;
         self.left[link.message as usize - 1] -= 1;
         Some(link.message)

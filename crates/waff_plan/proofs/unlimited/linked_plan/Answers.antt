@@ -1,5 +1,5 @@
 -- Messages are taken in the order in which they are served.
-use Rattle.std.proofs.Common.{◌≡◌, ℕ, ◌-◌, ◌<◌, ◌≤◌, inl, inr, max, true, List, [], ◌∷◌, ◌++◌, length, Contains, Option, MatchOption, arith, sym, ◌∙◌, ap, subst}
+use Rattle.std.proofs.Common.{◌≡◌, ℕ, ◌-◌, ◌<◌, ◌≤◌, inl, inr, max, true, List, [], ◌∷◌, ◌++◌, length, Contains, Option, MatchOption, set, arith, refl, sym, ◌∙◌, ap, subst}
 use Rattle.waff_model.specs.Numbers.{IsAmongFirst}
 use Rattle.waff_model.specs.Preorder.{span_at}
 use Rattle.waff_model.specs.Versions.{has_clients}
@@ -16,10 +16,10 @@ use Rattle.waff_plan.specs.Pending.{Issue}
 use Rattle.waff_plan.specs.Serving.{served_before, started_in}
 use Rattle.waff_plan.specs.Table.{IsLatestExcluding, IsLatestMeeting, IsTable}
 use Rattle.waff_plan.specs.Timetable.{AreTimings, Timetable, starts_in, with_start, work_in}
-use Rattle.waff_plan.specs.Timing.{start_of, work_of}
-use Rattle.waff_plan.specs.Turns.{turns_in}
+use Rattle.waff_plan.specs.Timing.{start_of}
+use Rattle.waff_plan.specs.Turns.{HoldsWaits, is_by_issue, turns_in}
 use Rattle.waff_plan.specs.Work.{Work, IsNumber, finish_of, issue_of}
-use Rattle.waff_waits.specs.Waits.{waiting_for}
+use Rattle.waff_waits.specs.Waits.{WhoWaits, waiting_for}
 use Rattle.waff_plan.specs.declared.latest.Latest.{Latest}
 use Rattle.waff_plan.specs.declared.timing.Timing.{Timing}
 use Rattle.waff_plan.proofs.AwaitingLemmas.{waiting_awaits, waiting_number, waits_count}
@@ -30,7 +30,7 @@ use Rattle.waff_plan.proofs.ServingLemmas.{least_started, served_to_started, sta
 use Rattle.waff_plan.proofs.StartOrder.{least_again}
 use Rattle.waff_plan.proofs.Tables.{found_noted_at}
 use Rattle.waff_plan.proofs.TimingLemmas.{length-timings_of}
-use Rattle.waff_plan.proofs.TurnLemmas.{has_followed, key_is_issue}
+use Rattle.waff_plan.proofs.TurnLemmas.{has_followed, held_is, key_is_issue}
 use Rattle.waff_plan.proofs.unlimited.linked_plan.Goals as goal
 use Rattle.waff_plan.proofs.unlimited.linked_plan.Goals.{In-Some}
 
@@ -50,6 +50,9 @@ order_now c = c.loop-m.invariant.order
 
 abbrev starts_now : In-Some → List ℕ
 starts_now c = c.loop-m.plan.starts
+
+abbrev waits_now : In-Some → WhoWaits
+waits_now c = c.loop-m.invariant.waits
 
 -- the message that is taken, with its key
 abbrev taken : In-Some → Issue
@@ -77,13 +80,13 @@ small c = small_work c.loop-m.plan.timings (are c).small
 number : (c : In-Some) → IsNumber (work_now c) c.in-Some.m
 number c =
     m_number c.args.tree.now c.spans-spans.result.now c.args.assigned.now (work_now c) (key_now c) (service c) (are c).earlier
-    (few c) (small c) (starts_now c) (order_now c) c.loop-m.links.items c.loop-m.left (turns_in c.loop-m.turns) (turns_in c.take.new.self) c.loop-m.waits c.loop-m.table (taken c)
+    (few c) (small c) (starts_now c) (order_now c) c.loop-m.links.items c.loop-m.left (turns_in c.loop-m.turns) (turns_in c.take.new.self) (waits_now c) c.loop-m.table (taken c)
     c.loop-m.invariant.going c.in-Some.ensures.taken
 
 left : (c : In-Some) → 1 ≤ c.loop-m.left
 left c =
     some_left c.args.tree.now c.spans-spans.result.now c.args.assigned.now (work_now c) (key_now c) (service c) (are c).earlier
-    (few c) (small c) (starts_now c) (order_now c) c.loop-m.links.items c.loop-m.left (turns_in c.loop-m.turns) (turns_in c.take.new.self) c.loop-m.waits c.loop-m.table (taken c)
+    (few c) (small c) (starts_now c) (order_now c) c.loop-m.links.items c.loop-m.left (turns_in c.loop-m.turns) (turns_in c.take.new.self) (waits_now c) c.loop-m.table (taken c)
     c.loop-m.invariant.going c.in-Some.ensures.taken
 
 among : (c : In-Some) → IsAmongFirst (length c.args.assigned.now) c.in-Some.m
@@ -125,30 +128,32 @@ starts_at : (c : In-Some) (s issue : ℕ) (latest : Option Latest) → issue ≡
     (λ l. s ≡ max (issue_of (work_now c) (start_of (starts_now c)) c.in-Some.m) l.finish)
 starts_at c s issue latest is at = subst (λ (i : ℕ). MatchOption latest (s ≡ i) (λ l. s ≡ max i l.finish)) is at
 
-awaiting_now : (c : In-Some) → AreAwaiting (work_now c) (order_now c) c.loop-m.waits
+awaiting_now : (c : In-Some) → AreAwaiting (work_now c) (order_now c) (waits_now c)
 awaiting_now c = c.loop-m.invariant.going.awaiting
 
 untaken : (c : In-Some) → Contains (order_now c) c.in-Some.m → ⊥
 untaken c =
     untaken_yet c.args.tree.now c.spans-spans.result.now c.args.assigned.now (work_now c) (key_now c) (service c) (are c).earlier
-    (few c) (small c) (starts_now c) (order_now c) c.loop-m.links.items c.loop-m.left (turns_in c.loop-m.turns) (turns_in c.take.new.self) c.loop-m.waits c.loop-m.table (taken c)
+    (few c) (small c) (starts_now c) (order_now c) c.loop-m.links.items c.loop-m.left (turns_in c.loop-m.turns) (turns_in c.take.new.self) (waits_now c) c.loop-m.table (taken c)
     c.loop-m.invariant.going c.in-Some.ensures.taken
 
 -- where a message waits for it, messages are of clients
-clients : (c : In-Some) (d : ℕ) → Contains (waiting_for c.loop-m.waits c.in-Some.m) d → has_clients c.loop-m.plan.version ≡ true
+clients : (c : In-Some) (d : ℕ) → Contains (waiting_for (waits_now c) c.in-Some.m) d → has_clients c.loop-m.plan.version ≡ true
 clients c d waits =
     has_followed c.loop-m.plan.version c.loop-m.plan.timings (are c) c.in-Some.m d
-    (waiting_awaits (work_now c) (are c).earlier (order_now c) c.loop-m.waits (awaiting_now c) c.in-Some.m d (number c) (untaken c) waits)
+    (waiting_awaits (work_now c) (are c).earlier (order_now c) (waits_now c) (awaiting_now c) c.in-Some.m d (number c) (untaken c) waits)
 
 pub loop-m-init : goal.loop-m-init
 loop-m-init c =
     let plan = c.in_ok-plan.plan in
     record {
       order = [];
+      waits = c.in_ok-turns.ensures.waits.0;
       going = going_first c.args.tree.now c.spans-spans.result.now c.args.assigned.now (work_in plan) (key_of plan.version (work_in plan)) plan.starts
-          c.in_ok-links.links.items c.len-left.result (turns_in c.in_ok-turns.turns) c.in_ok-waits.waits c.in_ok-table.table c.len-left.ensures.table.lengths
+          c.in_ok-links.links.items c.len-left.result (turns_in c.in_ok-turns.turns) c.in_ok-turns.ensures.waits.0 c.in_ok-table.table c.len-left.ensures.table.lengths
           (omega (arith, c.in_ok-links.ensures.len, c.in_ok-links.links.ok.0, c.len-2.ensures.count)) c.len-left.ensures.count
-          c.in_ok-turns.ensures.first (subst (λ (ts : List Timing). AreAwaiting (work_of ts) [] c.in_ok-waits.waits) c.timings.ensures c.in_ok-waits.ensures) (c.in_ok-table.ensures.table c.spans-spans.result.now c.args.assigned.now _);
+          c.in_ok-turns.ensures.first c.in_ok-turns.ensures.waits.1 (c.in_ok-table.ensures.table c.spans-spans.result.now c.args.assigned.now _);
+      holds = c.in_ok-turns.ensures.waits.2;
       version = c.in_ok-plan.ensures.version;
       timings = c.in_ok-plan.ensures.timings;
       spans = c.in_ok-table.ensures.count ∙ c.len.ensures.count;
@@ -187,7 +192,7 @@ set_start-requires c =
     record {
       number = number f;
       printable = start_printable c.args.tree.now c.spans-spans.result.now c.args.assigned.now (work_now f) (key_now f) (service f) (are f).earlier
-          (few f) (small f) (starts_now f) (order_now f) c.loop-m.links.items c.loop-m.left (turns_in c.loop-m.turns) (turns_in c.take.new.self) c.loop-m.waits c.loop-m.table (taken f)
+          (few f) (small f) (starts_now f) (order_now f) c.loop-m.links.items c.loop-m.left (turns_in c.loop-m.turns) (turns_in c.take.new.self) (waits_now f) c.loop-m.table (taken f)
           c.loop-m.invariant.going c.in-Some.ensures.taken c.start_at-start.result c.latest-latest.result
           (waited_for f c.of.result.0 c.latest-latest.result c.of.ensures c.latest-latest.ensures)
           (starts_at f c.start_at-start.result c.issue.result c.latest-latest.result c.issue.ensures.issue c.start_at-start.ensures);
@@ -210,14 +215,24 @@ note-requires-clause-few c =
 pub overflow_sub-m : goal.overflow_sub-m
 overflow_sub-m c = (number (goal.at.overflow_sub-m c).In-Some).from
 
+-- who waits for whom, when a message is taken
+holds_then : (c : In-Some) → HoldsWaits c.take.new.self (waits_now c)
+holds_then c = c.take.ensures.waits (waits_now c) c.loop-m.invariant.holds
+
+held : (c : In-Some) → is_by_issue c.take.new.self ≡ true → (w : WhoWaits) → HoldsWaits c.take.new.self w → waits_now c ≡ w
+held c by w holds = held_is c.take.new.self (waits_now c) w by (holds_then c) holds
+
 pub admit-requires : goal.admit-requires
 admit-requires c =
     let f = (goal.at.admit-requires c).In-Some in
     rw c.set_start.ensures (record {
       number = number f;
-      many = waits_count (work_now f) (are f).earlier (order_now f) c.loop-m.waits (awaiting_now f);
-      numbers = λ d waits. waiting_number (work_now f) (are f).earlier (order_now f) c.loop-m.waits (awaiting_now f) f.in-Some.m d waits;
-      by_issue = λ d waits. c.in-Some.ensures.kept ∙ c.loop-m.invariant.by ∙ clients f d waits;
+      many = λ by w holds.
+          subst (λ (u : WhoWaits). length u.awaited ≡ length c.loop-m.plan.timings) (held f by w holds)
+          (waits_count (work_now f) (are f).earlier (order_now f) (waits_now f) (awaiting_now f));
+      numbers = λ by w holds.
+          subst (λ (u : WhoWaits). (d : ℕ) → Contains (waiting_for u c.in-Some.m) d → IsNumber (work_now f) d) (held f by w holds)
+          (λ d waits. waiting_number (work_now f) (are f).earlier (order_now f) (waits_now f) (awaiting_now f) f.in-Some.m d waits);
     })
 
 pub loop-m-smaller : goal.loop-m-smaller
@@ -231,17 +246,20 @@ loop-m-preserved c =
     let placed = with_start c.loop-m.plan c.in-Some.m s in
     let finish_is : c.finish-finish.result ≡ finish_of (work_in placed) (starts_in placed) c.in-Some.m
     = c.finish-finish.ensures.finish ∙ ap (λ (p : Timetable). finish_of (work_in p) (starts_in p) c.in-Some.m) c.set_start.ensures in
+    let after : WhoWaits = record { awaited = set (waits_now f).awaited (c.in-Some.m - 1) []; finished = set (waits_now f).finished (c.in-Some.m - 1) true } in
+    let holds_after : HoldsWaits c.admit.new.self after = c.in_ok-admit.ensures.waits (waits_now f) (holds_then f) in
     rw (c.set_start.ensures, c.wait.ensures) (record {
       order = order_now f ++ c.in-Some.m ∷ [];
+      waits = after;
       going = going_on c.args.tree.now spans c.args.assigned.now (work_now f) (key_now f) (service f) (are f).earlier
-          (few f) (small f) (starts_now f) (order_now f) c.loop-m.links.items c.loop-m.left (turns_in c.loop-m.turns) (turns_in c.take.new.self) c.loop-m.waits c.loop-m.table (taken f)
+          (few f) (small f) (starts_now f) (order_now f) c.loop-m.links.items c.loop-m.left (turns_in c.loop-m.turns) (turns_in c.take.new.self) (waits_now f) c.loop-m.table (taken f)
           c.loop-m.invariant.going c.in-Some.ensures.taken s c.latest-latest.result
           (waited_for f c.of.result.0 c.latest-latest.result c.of.ensures c.latest-latest.ensures)
           (starts_at f s c.issue.result c.latest-latest.result c.issue.ensures.issue c.start_at-start.ensures)
           c.finish-finish.result finish_is c.note.new.self
           (λ finish_at noted at. c.note.ensures.table spans c.args.assigned.now finish_at (order_now f) noted (ap (span_at spans) (sym c.of.ensures)) at)
-          (turns_in c.admit.new.self) c.admit.new.waits c.in_ok-admit.ensures.waits c.in_ok-admit.ensures.free
-          (λ y there. elim (c.in_ok-admit.ensures.issued y there) [
+          (turns_in c.admit.new.self) after refl (c.in_ok-admit.ensures.free (waits_now f) after (holds_then f) holds_after)
+          (λ y there. elim (c.in_ok-admit.ensures.issued (waits_now f) (holds_then f) y there) [
             | inl old ↦ inl old
             | inr new ↦ inr (
               new.0,
@@ -249,17 +267,12 @@ loop-m-preserved c =
                   ∙ sym (key_is_issue c.loop-m.plan.version (work_now f) (starts_in placed) y.1 (clients f y.1 new.0)),
             )
           ]);
+      holds = holds_after;
       version = c.loop-m.invariant.version;
       timings = c.loop-m.invariant.timings;
       spans = c.note.ensures.count ∙ c.loop-m.invariant.spans;
       by = c.in_ok-admit.ensures.kept ∙ c.in-Some.ensures.kept ∙ c.loop-m.invariant.by;
     })
-
-pub awaiting-requires : goal.awaiting-requires
-awaiting-requires c = rw c.timings.ensures (record {
-  few = c.len-left.ensures.table.few;
-  earlier = c.len-left.ensures.table.timings.earlier;
-})
 
 -- the plan that is least in the order by the key is least in the order in which it serves messages
 least_served : (tree : List Node) (assigned : List ℕ) (work : Work) → length assigned ≡ work.count → (version : Version) (start : ℕ → ℕ)

@@ -2,14 +2,17 @@ use Rattle.std.proofs.Common.{◌≡◌, ℕ, List, length}
 use Rattle.waff_model.specs.Versions.{has_clients}
 use Rattle.waff_plan.specs.Order.{key_of}
 use Rattle.waff_plan.specs.Timetable.{timings_of, work_in}
-use Rattle.waff_plan.specs.Turns.{is_by_issue, turns_in}
+use Rattle.waff_plan.specs.Turns.{HoldsWaits, is_by_issue, turns_in}
+use Rattle.waff_waits.specs.Waits.{WhoWaits}
 use Rattle.waff_plan.proofs.IssueLoop.{IsGoing}
 use Rattle.waff_plan.proofs.unlimited.linked_plan.Given as goal
 
 abbrev pub invariant-loop-m : goal.invariant-loop-m
 invariant-loop-m l = record {
   order : List ℕ;
-  going : IsGoing l.tree l.spans l.assigned (work_in l.plan) (key_of l.plan.version (work_in l.plan)) l.plan.starts order l.links.items l.left (turns_in l.turns) l.waits l.table;
+  waits : WhoWaits;
+  going : IsGoing l.tree l.spans l.assigned (work_in l.plan) (key_of l.plan.version (work_in l.plan)) l.plan.starts order l.links.items l.left (turns_in l.turns) waits l.table;
+  holds : HoldsWaits l.turns waits;
   version : l.plan.version ≡ l.trace.version;
   timings : l.plan.timings ≡ timings_of l.trace.messages;
   spans : length l.table.own ≡ length l.tree;

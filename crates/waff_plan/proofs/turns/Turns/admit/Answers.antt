@@ -1,113 +1,28 @@
--- Those that wait for a message that has had its turn are let go, one after another.
-use Rattle.std.proofs.Common.{◌≡◌, ◌-◌, inl, inr, [], ◌∷◌, ◌++◌, Contains, length, refl, sym, ◌∙◌, ap, arith, subst}
-use Rattle.std.proofs.lemmas.Bool.{false≢true}
-use Rattle.std.proofs.lemmas.List.{set-get_or}
-use Rattle.std.proofs.lemmas.List.Sorted.{IsPermutation-map}
-use Rattle.waff_model.specs.Numbers.{IsAmongFirst}
-use Rattle.waff_plan.specs.Pending.{Issue}
-use Rattle.waff_plan.specs.Timetable.{starts_in, work_in}
-use Rattle.waff_plan.specs.Turns.{turns_in}
-use Rattle.waff_plan.specs.Work.{issue_of}
+-- By number nobody is let go; by issue those are that waited.
+use Rattle.std.proofs.Common.{◌≡◌, ℕ, ◌++◌, Contains, refl, sym, subst}
+use Rattle.std.proofs.lemmas.Result.{on_ok_weaker}
 use Rattle.waff_waits.specs.Times.{AreEach}
 use Rattle.waff_waits.specs.Waits.{IsFree, WhoWaits, waiting_for}
-use Rattle.waff_waits.proofs.LettingGo.{going_bound, going_free, going_next, it_waited}
-use Rattle.waff_plan.proofs.IssueFirst.{put_cases}
+use Rattle.waff_plan.specs.Turns.{HoldsWaits, turns_in}
+use Rattle.waff_plan.specs.declared.turns.Turns.{Turns}
 use Rattle.waff_plan.proofs.IssueSteps.{those}
+use Rattle.waff_plan.proofs.TurnLemmas.{all_free}
 use Rattle.waff_plan.proofs.turns.Turns.admit.Goals as goal
-use Rattle.waff_plan.proofs.turns.Turns.admit.Goals.{In-Some}
 
-pub loop-next-init : goal.loop-next-init
-loop-next-init c =
-    let w = c.args.waits.now in
-    record {
-      rest = waiting_for w c.args.m;
-      going = (
-        ap (λ xs. let v : WhoWaits = record { awaited = xs; finished = w.finished } in v) (sym (set-get_or w.awaited (c.args.m - 1) [])),
-        λ d there. there,
-      );
-      free = λ entered taken among each. each;
-      issued = λ x there. inl there;
-      kept = refl;
-    }
+pub admit-requires-clause-numbers : goal.admit-requires-clause-numbers
+admit-requires-clause-numbers c = c.requires.numbers (rw c.in-Issues.is refl) c.in-Issues.waits (rw c.in-Issues.is refl)
 
-number : (c : In-Some) → IsAmongFirst (length c.args.waits.now.awaited) c.args.m
-number c =
-    let is = c.requires.number in
-    record { from = is.from; to = omega (arith, is.to, c.requires.many) }
+pub returns-in-Numbers-clause-free : goal.returns-in-Numbers-clause-free
+returns-in-Numbers-clause-free c = rw c.in-Numbers.is
+    (λ w new none no_other entered taken among each. all_free w new none no_other entered _ each)
 
-waited : (c : In-Some) → Contains (waiting_for c.args.waits.now c.args.m) c.in-Some.next
-waited c =
-    it_waited c.args.waits.now c.loop-next.waits c.let_go.new.self c.args.m c.in-Some.next c.loop-next.invariant.rest (number c) c.loop-next.invariant.going c.in-Some.ensures.goes
-
-pub issue-requires : goal.issue-requires
-issue-requires c =
-    let f = (goal.at.issue-requires c).In-Some in
-    record { number = c.requires.numbers f.in-Some.next (waited f) }
-
-pub put-requires : goal.put-requires
-put-requires c =
-    let f = (goal.at.put-requires c).In-Some in
-    record { by_issue = c.loop-next.invariant.kept ∙ c.requires.by_issue f.in-Some.next (waited f) }
-
-pub loop-next-preserved-in-Continue-1 : goal.loop-next-preserved-in-Continue-1
-loop-next-preserved-in-Continue-1 c =
-    let f = (goal.at.loop-next-preserved-in-Continue-1 c).In-Some in
-    let h = c.loop-next.invariant in
-    let w = c.args.waits.now in
-    let now = c.loop-next.waits in
-    let new = c.let_go.new.self in
-    let m = c.args.m in
-    let d = c.in-Some.next in
-    let goes = c.in-Some.ensures.goes in
-    let one : Issue = (c.issue.result, d) in
-    let before = turns_in c.loop-next.self in
-    let after = turns_in c.put.new.self in
-    let moved = IsPermutation-map (λ (x : Issue). x.1) (one ∷ before) after c.in_ok-put.ensures.put in
-    record {
-      rest = goes.rest;
-      going = going_next w now new m d h.rest (number f) h.going goes;
-      free = λ entered taken among each.
-          going_free w now new m d h.rest (number f) h.going goes entered taken (those before) (among d (waited f)) (h.free entered taken among each)
-          (those after) moved (c.in-Some.ensures.none.0 c.if-is_open.true);
-      issued = λ x there. elim (put_cases one before after c.in_ok-put.ensures.put x there) [
-        | inl here ↦ inr (
-          subst (λ (y : Issue). Contains (waiting_for w m) y.1) here (waited f),
-          subst (λ (y : Issue). y.0 ≡ issue_of (work_in c.args.plan.now) (starts_in c.args.plan.now) y.1) here c.issue.ensures.issue,
-        )
-        | inr old ↦ h.issued x old
-      ];
-      kept = c.in_ok-put.ensures.kept ∙ h.kept;
-    }
-
-pub loop-next-preserved : goal.loop-next-preserved
-loop-next-preserved c =
-    let f = (goal.at.loop-next-preserved c).In-Some in
-    let h = c.loop-next.invariant in
-    let w = c.args.waits.now in
-    let now = c.loop-next.waits in
-    let new = c.let_go.new.self in
-    let m = c.args.m in
-    let d = c.in-Some.next in
-    let goes = c.in-Some.ensures.goes in
-    record {
-      rest = goes.rest;
-      going = going_next w now new m d h.rest (number f) h.going goes;
-      free = λ entered taken among each.
-          going_bound w now new m d h.rest (number f) h.going goes entered taken (those (turns_in c.loop-next.self)) (among d (waited f)) (h.free entered taken among each)
-          (λ none. false≢true (sym c.if-is_open.false ∙ c.in-Some.ensures.none.1 none));
-      issued = h.issued;
-      kept = h.kept;
-    }
-
-pub returns-clause-free : goal.returns-clause-free
-returns-clause-free c = λ entered taken among each.
-    let none = c.in_default.ensures.goes in
-    let before : AreEach (IsFree entered c.loop-next.waits) (taken ++ those (turns_in c.loop-next.self)) = c.loop-next.invariant.free entered taken among each in
-    subst (λ (u : WhoWaits). AreEach (IsFree entered u) (taken ++ those (turns_in c.loop-next.self))) (sym c.finish.ensures)
-    (subst (λ (u : WhoWaits). AreEach (IsFree entered u) (taken ++ those (turns_in c.loop-next.self))) (sym none.1) before)
-
-pub returns-clause-issued : goal.returns-clause-issued
-returns-clause-issued c = c.loop-next.invariant.issued
-
-pub returns-clause-kept : goal.returns-clause-kept
-returns-clause-kept c = c.loop-next.invariant.kept
+pub returns-in-Issues-clause-free : goal.returns-in-Issues-clause-free
+returns-in-Issues-clause-free c =
+    on_ok_weaker c.admit.result
+    (λ free w new is is_new entered taken among each.
+    let was : c.in-Issues.waits ≡ w = subst (λ (t : Turns). HoldsWaits t w) c.in-Issues.is is in
+    subst (λ (u : WhoWaits). AreEach (IsFree entered u) (taken ++ those c.admit.new.due)) is_new
+    (free entered taken (subst (λ (u : WhoWaits). (d : ℕ) → Contains (waiting_for u c.args.m) d → Contains entered d) (sym was) among)
+    (subst (λ (u : WhoWaits). AreEach (IsFree entered u) (taken ++ those c.in-Issues.due)) (sym was)
+    (subst (λ (t : Turns). AreEach (IsFree entered w) (taken ++ those (turns_in t))) c.in-Issues.is each))))
+    c.admit.ensures.free

@@ -1,5 +1,5 @@
 use Rattle.std.proofs.Common.{◌≡◌, ◌+◌, ◌-◌, ◌<◌, ◌++◌, [], ◌∷◌, length, get_or, ap, ◌∙◌, arith}
-use Rattle.std.proofs.lemmas.List.{get_or_read, length_push}
+use Rattle.std.proofs.lemmas.List.{get_or_read}
 use Rattle.waff_model.specs.Numbers.{IsAmongFirst}
 use Rattle.waff_waits.specs.declared.link.Link.{Link}
 use Rattle.waff_waits.proofs.Counting.{counted_more, left_few, number_as, waits_as}
@@ -24,10 +24,8 @@ next c =
 links : (c : After-index_mut-2) → c.push.new.self.items ≡ c.self.inside.links.items ++ (record { message = c.args.m; next = get_or c.self.inside.firsts.items (c.args.i - 1) 0 }) ∷ []
 links c = c.in_ok-push.ensures.items ∙ ap (λ n. let l : Link = record { message = c.args.m; next = n } in c.self.inside.links.items ++ l ∷ []) (next c)
 
-count : (c : After-index_mut-2) → c.len.result ≡ length c.self.inside.links.items + 1
-count c =
-    let l : Link = record { message = c.args.m; next = get_or c.self.inside.firsts.items (c.args.i - 1) 0 } in
-    omega (arith, c.len.ensures, c.push.new.self.ok, ap length (links c), length_push c.self.inside.links.items l)
+count : (c : After-index_mut-2) → c.in-Ok.number ≡ length c.self.inside.links.items + 1
+count c = omega (arith, c.len.ensures, c.self.inside.links.ok, c.in-Ok.ensures)
 
 left : (c : After-index_mut-2) → c.index_mut-2.result.now ≡ get_or c.self.inside.left.items (c.args.m - 1) 0
 left c =

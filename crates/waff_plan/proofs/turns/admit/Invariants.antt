@@ -1,23 +1,21 @@
 use Rattle.std.proofs.Common.{◌≡◌, ℕ, ◌⊎◌, ◌++◌, List, Contains, length, map}
 use Rattle.waff_plan.specs.Pending.{Issue}
 use Rattle.waff_plan.specs.Timetable.{starts_in, work_in}
-use Rattle.waff_plan.specs.Turns.{is_by_issue, turns_in}
 use Rattle.waff_plan.specs.Work.{issue_of}
 use Rattle.waff_waits.specs.Times.{AreEach}
 use Rattle.waff_waits.specs.Waits.{IsFree, waiting_for}
 use Rattle.waff_waits.proofs.LettingGo.{IsGoing}
-use Rattle.waff_plan.proofs.turns.Turns.admit.Given as goal
+use Rattle.waff_plan.proofs.turns.admit.Given as goal
 
 abbrev pub invariant-loop-next : goal.invariant-loop-next
 invariant-loop-next l = record {
   rest : List ℕ;
   going : IsGoing l.initial.waits l.m rest l.waits;
   free : (entered taken : List ℕ) → ((d : ℕ) → Contains (waiting_for l.initial.waits l.m) d → Contains entered d)
-      → AreEach (IsFree entered l.initial.waits) (taken ++ map (λ (x : Issue). x.1) (turns_in l.initial.self))
-      → AreEach (IsFree entered l.waits) (taken ++ map (λ (x : Issue). x.1) (turns_in l.self));
-  issued : (x : Issue) → Contains (turns_in l.self) x
-      → Contains (turns_in l.initial.self) x ⊎ (Contains (waiting_for l.initial.waits l.m) x.1 × (x.0 ≡ issue_of (work_in l.plan) (starts_in l.plan) x.1));
-  kept : is_by_issue l.self ≡ is_by_issue l.initial.self;
+      → AreEach (IsFree entered l.initial.waits) (taken ++ map (λ (x : Issue). x.1) l.initial.due)
+      → AreEach (IsFree entered l.waits) (taken ++ map (λ (x : Issue). x.1) l.due);
+  issued : (x : Issue) → Contains l.due x
+      → Contains l.initial.due x ⊎ (Contains (waiting_for l.initial.waits l.m) x.1 × (x.0 ≡ issue_of (work_in l.plan) (starts_in l.plan) x.1));
 }
 
 abbrev pub decreases-loop-next : goal.decreases-loop-next
