@@ -370,7 +370,7 @@ fn settings_of<'a>(task: &'a RunTask) -> Settings<'a>
         pace: Pace {
             workers: words.workers.number(),
             tick: words.tick.nanoseconds(),
-            loud: task.loud,
+            loud: task.progress,
         },
         fill: words.fill,
         sync_writes: words.sync_writes,
@@ -391,7 +391,7 @@ fn write_measured<R: Files>(rt: &R, part: Option<Part>, told: &Recorded) -> Resu
     }
 }
 
-/// At a terminal: what helps against a drift, how long the run was, how long the plan for its costs is, and how late messages
+/// Of a loud run: what helps against a drift, how long the run was, how long the plan for its costs is, and how late messages
 /// began.
 fn how_it_went<R: Threads + Sync>(rt: &R, alloc: Global, task: &RunTask, ran: &Recorded) -> Advice
     ensures { task.now.loud ≡ false → advice_text result ≡ [] }
@@ -406,12 +406,14 @@ fn how_it_went<R: Threads + Sync>(rt: &R, alloc: Global, task: &RunTask, ran: &R
         return Advice::Nothing;
     };
     let (length, late, short) = (ran.tally.length, ran.tally.late, ran.tally.short);
+    // It stands where the line of the progress stood.
+    let over = if task.progress { "\r" } else { "" };
     let text = match ran.drift {
         Some(_) => format!(in alloc;
-            "{short} messages were shorter than a tick; a trace that is made with a smaller tick tells how long they were\n\rwaff: ran {length} ticks, planned {planned}, messages began {late} ns late (median)\n"
+            "{short} messages were shorter than a tick; a trace that is made with a smaller tick tells how long they were\n{over}waff: ran {length} ticks, planned {planned}, messages began {late} ns late (median)\n"
         ),
         None => format!(in alloc;
-            "\rwaff: ran {length} ticks, planned {planned}, messages began {late} ns late (median)\n"
+            "{over}waff: ran {length} ticks, planned {planned}, messages began {late} ns late (median)\n"
         ),
     };
     match text {

@@ -1,6 +1,6 @@
-//! What is told at a terminal below the line of a fault: the command that says what is wrong, or what is to
-//! be done. Where standard error is no terminal, a question has no names of files, a task is not loud, and
-//! nothing is told.
+//! What a loud command says below the line of a fault: the command that says what is wrong, or what is to be
+//! done. A command is loud at a terminal, and with `--verbose`. Else a question has no names of files, a task is
+//! not loud, and nothing is said.
 ghost use Rattle.std.specs.Prelude.{◌≡◌, [], false};
 ghost use Rattle.waff_cli.specs.Advice.{advice_text};
 

@@ -13,6 +13,9 @@ use waff_model::limits::{MAX_TICK, MAX_WORKERS};
 /// The limits that help and refusals name.
 const _: () = prove!(MAX_WORKERS == 64 && MAX_SEATS == 16 && MAX_SWEPT == 64 && MAX_RANKED == 64);
 
+/// The option of every command that has standard error read as at a terminal.
+pub(crate) const VERBOSE: &str = "verbose";
+
 /// What is told of the version of the program.
 #[derive(Clone, Copy)]
 pub struct ProgramVersion {
@@ -59,6 +62,7 @@ fn waff<'a>(alloc: Global, version: ProgramVersion, short: &'a str, long: &'a st
 fn command<'a>(alloc: Global, words: CommandWords) -> Result<Command<'a>, AllocError> {
     let mut args = Vec::new(alloc);
     push_args(alloc, words.words, &mut args)?;
+    args.push(flag(alloc, VERBOSE, "Below a fault, says what helps"))?;
     Command::new(alloc, words.name)
         .about(words.about)
         .hide(words.group.is_some())

@@ -4,8 +4,9 @@ ghost use Rattle.clap.specs.Words.{subcommand_rows_of};
 ghost use Rattle.waff_cli.specs.Tasks.{IsTask, IsTaskOfWords};
 
 use crate::files::{Told, read_files};
+use crate::found::{command_in, flag_in};
 use crate::help::ending;
-use crate::parser::{ProgramVersion, parser};
+use crate::parser::{ProgramVersion, VERBOSE, parser};
 use crate::refusal::Refusal;
 use crate::requests::{Request, RunRequest, Wanted};
 use crate::task::{Question, RunTask, Task};
@@ -98,6 +99,15 @@ pub fn task_of_words<R: Runtime, E: ErrorStream>(
     }
 }
 
+/// Whether this command says below a fault what helps: at a terminal, and with `--verbose` elsewhere too.
+fn is_loud(matches: &ArgMatches<'_>, terminals: Terminals) -> bool {
+    let is_verbose = match command_in(matches) {
+        Some((_, found)) => flag_in(found, VERBOSE),
+        None => false,
+    };
+    terminals.error || is_verbose
+}
+
 /// The word for the command, where there is one.
 fn command_of(words: &[String]) -> &str {
     match words.get(1) {
@@ -116,12 +126,30 @@ pub fn task_of<R: Runtime, E: ErrorStream>(
 ) -> Result<Task, Refusal>
     ensures { IfOk result (IsTask (subcommand_rows_of matches.now)) }
 {
+    let loud = is_loud(matches, terminals);
+    match wanted_task(rt, alloc, matches, terminals, loud, err) {
+        Err(Refusal::Memory) if loud => Err(Refusal::no_memory(rt, alloc, err)),
+        task => task,
+    }
+}
+
+/// The same of a command that is loud or not.
+fn wanted_task<R: Runtime, E: ErrorStream>(
+    rt: &R,
+    alloc: Global,
+    matches: &ArgMatches<'_>,
+    terminals: Terminals,
+    loud: bool,
+    err: &mut E,
+) -> Result<Task, Refusal>
+    ensures { IfOk result (IsTask (subcommand_rows_of matches.now)) }
+{
     match wanted_of(rt, alloc, matches) {
-        Ok(Wanted::Answer(request)) => match question_of(rt, alloc, request, terminals, err) {
+        Ok(Wanted::Answer(request)) => match question_of(rt, alloc, request, terminals, loud, err) {
             Ok(question) => Ok(Task::Question(question)),
             Err(refusal) => Err(refusal),
         },
-        Ok(Wanted::Run(request)) => match run_of(rt, alloc, request, terminals, err) {
+        Ok(Wanted::Run(request)) => match run_of(rt, alloc, request, terminals, loud, err) {
             Ok(run) => Ok(Task::Run(run)),
             Err(refusal) => Err(refusal),
         },
@@ -135,6 +163,7 @@ fn run_of<R: Runtime, E: ErrorStream>(
     alloc: Global,
     request: RunRequest<'_>,
     terminals: Terminals,
+    loud: bool,
     err: &mut E,
 ) -> Result<RunTask, Refusal>
     ensures { IfOk result (λ run. run.words ≡ request.entry.words) }
@@ -155,9 +184,10 @@ fn run_of<R: Runtime, E: ErrorStream>(
             words,
             files,
             names: kept,
-            loud: terminals.error,
+            loud,
+            progress: terminals.error,
         }),
-        Err(unread) => Err(unread.refusal(rt, alloc, told(false, terminals), err)),
+        Err(unread) => Err(unread.refusal(rt, alloc, told(false, loud), err)),
     }
 }
 
@@ -167,6 +197,7 @@ fn question_of<R: Runtime, E: ErrorStream>(
     alloc: Global,
     request: Request<'_>,
     terminals: Terminals,
+    loud: bool,
     err: &mut E,
 ) -> Result<Question, Refusal>
     ensures { IfOk result (λ question. question.asked ≡ request.entry.asked) }
@@ -175,7 +206,7 @@ fn question_of<R: Runtime, E: ErrorStream>(
         asked,
         files: names,
     } = request;
-    let kept = kept_names(alloc, names.as_slice(), terminals)?;
+    let kept = kept_names(alloc, names.as_slice(), loud)?;
     match read_files(rt, alloc, names.as_slice(), waiting(&asked, terminals)) {
         Ok(files) => Ok(Question {
             asked,
@@ -184,19 +215,15 @@ fn question_of<R: Runtime, E: ErrorStream>(
         }),
         Err(unread) => {
             let is_explained = matches!(asked, Asked::Explain);
-            Err(unread.refusal(rt, alloc, told(is_explained, terminals), err))
+            Err(unread.refusal(rt, alloc, told(is_explained, loud), err))
         }
     }
 }
 
-/// These names, where somebody reads standard error, and else none.
-fn kept_names(
-    alloc: Global,
-    names: &[&str],
-    terminals: Terminals,
-) -> Result<Vec<String>, AllocError> {
+/// These names for a loud command, and else none.
+fn kept_names(alloc: Global, names: &[&str], loud: bool) -> Result<Vec<String>, AllocError> {
     let mut kept = Vec::new(alloc);
-    if terminals.error {
+    if loud {
         push_copies(alloc, names, &mut kept)?;
     }
     Ok(kept)
@@ -221,12 +248,12 @@ fn waiting(asked: &Asked, terminals: Terminals) -> Option<&'static str> {
     }
 }
 
-/// How it is told that a file was not read: `explain` has the reason in place of the fault, and at a
-/// terminal the reason stands below it.
-fn told(is_explained: bool, terminals: Terminals) -> Told {
+/// How it is told that a file was not read: `explain` has the reason in place of the fault, a loud command
+/// has it below.
+fn told(is_explained: bool, loud: bool) -> Told {
     if is_explained {
         Told::Reason
-    } else if terminals.error {
+    } else if loud {
         Told::Both
     } else {
         Told::Fault

@@ -151,7 +151,7 @@ A line for each number of workers (without --workers 1, 2, 3, 4, 6, 8, 12, 16,
   over      the length / least, rounded up
   waits     the ticks that messages wait in all
   mean      the mean latency, from a release to the finish
-  p50, p99  a latency that 50 and 99 of 100 messages do not pass
+  p50, p99  a latency that 50 and 99 of 100 messages do not exceed
   latency   the greatest latency
 Plans in arrival order are what least and over compare with: of two messages
 that exclude each other the first one of the trace runs first. With clients they
@@ -305,7 +305,7 @@ A line each:
   over      the length / least, rounded up
   waits     the ticks that messages wait in all
   mean      the mean latency, from a release to the finish
-  p50, p99  a latency that 50 and 99 of 100 messages do not pass
+  p50, p99  a latency that 50 and 99 of 100 messages do not exceed
   latency   the greatest latency
 Least and over compare with plans in arrival order: of two messages that exclude
 each other the first one of the trace runs first. With clients they compare with
@@ -505,7 +505,7 @@ A line for each hierarchy:
   over        list / least, rounded up
   waits       the ticks that messages wait in all
   mean        the mean latency, from a release to the finish
-  p50, p99    a latency that 50 and 99 of 100 messages do not pass
+  p50, p99    a latency that 50 and 99 of 100 messages do not exceed
   latency     the greatest latency
 Least and over are among plans in arrival order, in which of two messages that
 exclude each other the first one of the trace runs first; with clients among

@@ -18,7 +18,7 @@ pub enum Task {
 pub struct Question {
     pub asked: Asked,
     pub files: Vec<Vec<u8>>,
-    /// The names of the files where somebody reads standard error, else none.
+    /// The names of the files where the command is loud, else none.
     pub names: Vec<String>,
     ghost limits: { IsWithinLimits asked } by { within_limits-prop asked },
     ghost taken: { TakesFiles asked (length files.items) },
@@ -31,6 +31,8 @@ pub struct RunTask {
     pub files: Vec<Vec<u8>>,
     /// The names of the files. The name `-` is standard input.
     pub names: Vec<String>,
-    /// Whether somebody reads standard error.
+    /// Whether what helps is said below a fault, and behind a run how it went.
     pub loud: bool,
+    /// Whether standard error is a terminal, where a line tells how far the run is.
+    pub progress: bool,
 }
