@@ -25,8 +25,17 @@ const SHORT_WORKERS: &str = "to pass '-k' as a value, use '-- -k'";
 /// What helps there.
 const LONG_WORKERS: &str = "to replay on 4 threads, use '--workers 4'";
 
+/// What `clap` says of several numbers of workers for a command of one.
+const ONE_NUMBER: &str = "for '--workers <K>': invalid digit found in string";
+
+/// What helps there.
+const SEVERAL_NUMBERS: &str = "\
+for '--workers <K>': invalid digit found in string
+
+  tip: waff sweep and waff limits take several numbers";
+
 /// The text of an error of the words of this command, with a tip that helps in place of that of `clap`
-/// where there is one.
+/// where there is one, or behind what it says.
 pub(crate) fn text_with_tip(
     alloc: Global,
     error: &clap::Error,
@@ -41,10 +50,13 @@ pub(crate) fn text_with_tip(
     told
 }
 
-/// The tip of this text that does not help, and the one that does.
+/// The part of this text that does not help, and the one that does.
 fn tip(command: &str, text: &str) -> Option<(&'static str, &'static str)> {
     if command == "replay" && text.contains(SHORT_WORKERS) {
         return Some((SHORT_WORKERS, LONG_WORKERS));
+    }
+    if text.contains(ONE_NUMBER) && text.contains(',') {
+        return Some((ONE_NUMBER, SEVERAL_NUMBERS));
     }
     for said in OUTPUTS.iter() {
         if text.contains(*said) {

@@ -33,9 +33,9 @@ pub(crate) fn push_row(words: &mut Words, kind: &str, tables: &[Value], number: 
     let key = if kind == "map" { "space" } else { "name" };
     let name = text_of(tables, number, key);
     if name.is_empty() {
-        say!(words; Where: "hierarchy, {} {}", kind, number);
+        say!(words; Where: "hierarchy, {} {} (from 0)", kind, number);
     } else {
-        say!(words; Where: "hierarchy, {} {}, {} `{}`", kind, number, key, name.as_bytes());
+        say!(words; Where: "hierarchy, {} {} (from 0), {} `{}`", kind, number, key, name.as_bytes());
     }
 }
 

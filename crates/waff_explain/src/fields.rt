@@ -52,6 +52,17 @@ pub(crate) fn push_no_commas(words: &mut Words, walk: &Walk<'_>) {
     }
 }
 
+/// Appends the guess that a file holds something else than plain text, by its first bytes, or nothing.
+pub(crate) fn push_no_plain(words: &mut Words, bytes: &[u8]) {
+    if bytes.is_empty() {
+        say!(words; Found: "perhaps a command that failed: the file is empty");
+    } else if bytes.starts_with(b"\x1f\x8b") {
+        say!(words; Found: "perhaps a compressed file: `gzip -dc` prints its text");
+    } else if bytes.starts_with(b"\xff\xfe") || bytes.starts_with(b"\xfe\xff") {
+        say!(words; Found: "perhaps text in UTF-16: `iconv -f utf-16 -t utf-8` prints it in UTF-8");
+    }
+}
+
 /// Whether the first field of the record has this byte.
 fn has(walk: &Walk<'_>, wanted: u8) -> bool {
     walk.bytes(0).iter().any(|byte| *byte == wanted)

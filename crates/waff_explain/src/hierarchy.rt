@@ -5,6 +5,7 @@ ghost use Rattle.waff_explain.specs.Lines.{AreHeadedLines};
 
 use crate::affinities::{push_no_tree, push_third_level};
 use crate::document::{push_no_key, push_no_model};
+use crate::fields::push_no_plain;
 use crate::layouts::push_no_layout;
 use crate::say;
 use crate::walk::feeds;
@@ -22,6 +23,7 @@ pub fn hierarchy_words(alloc: Global, bytes: &[u8], fault: HierError) -> Result<
         Ok(table) => push_fault(&mut words, &Value::Table(table), fault),
         Err(e) => push_no_document(&mut words, bytes, &e),
     }
+    push_no_plain(&mut words, bytes);
     words.finish()
 }
 

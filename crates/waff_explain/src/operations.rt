@@ -31,6 +31,9 @@ impl<'a> Flaw<'a> {
             Flaw::Words => {
                 say!(words; Found: "operation {}, `{}`: these words are no operation", piece, op);
                 say!(words; Wanted: "`set C N`, `add C N`, `copy C D`, `swap C D` or `read C`");
+                if op.starts_with(b"write ") {
+                    say!(words; Found: "perhaps `set`, which writes a number to a cell");
+                }
             }
             Flaw::Cell(word) => {
                 let shown = word.as_bytes();

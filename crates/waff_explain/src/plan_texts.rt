@@ -3,7 +3,7 @@
 ghost use Rattle.std.specs.Prelude.{IfOk, string_bytes};
 ghost use Rattle.waff_explain.specs.Lines.{AreHeadedLines};
 
-use crate::fields::{push_no_commas, push_no_name, push_no_number, push_no_text};
+use crate::fields::{push_no_commas, push_no_name, push_no_number, push_no_plain, push_no_text};
 use crate::say;
 use crate::walk::{Walk, find_behind_header};
 use crate::words::Words;
@@ -48,6 +48,9 @@ fn push_refusal(
         _ => push_fault(words, messages, &walk, fault),
     }
     push_guess(words, messages, summary.saturating_sub(2), &walk, fault);
+    if at == 1 {
+        push_no_plain(words, bytes);
+    }
     walk.end(words);
 }
 

@@ -3,7 +3,9 @@
 ghost use Rattle.std.specs.Prelude.{IfOk, string_bytes};
 ghost use Rattle.waff_explain.specs.Lines.{AreHeadedLines};
 
-use crate::fields::{push_no_commas, push_no_name, push_no_number, push_no_text, push_too_many};
+use crate::fields::{
+    push_no_commas, push_no_name, push_no_number, push_no_plain, push_no_text, push_too_many,
+};
 use crate::lists::{push_many_pieces, push_no_list};
 use crate::operations::{count_ops, flaw_of};
 use crate::say;
@@ -51,6 +53,9 @@ fn push_refusal(
             push_no_trace(words, &mut walk);
         }
         _ => push_fault(words, layout, version, &walk, fault),
+    }
+    if record_of(fault) == 1 {
+        push_no_plain(words, trace);
     }
     walk.end(words);
 }
