@@ -10,8 +10,8 @@ from pathlib import Path
 
 from common import Count
 from hierarchies import hierarchy
+from making import HEADERS
 
-HEADERS = {1: "message,cost,ops", 2: "message,cost,release,ops", 3: "message,cost,release,client,think,ops"}
 PLAIN = """model = "hierarchical"
 affinity = [{ name = "root" }, { name = "a", parent = "root" }, { name = "b", parent = "root" }]
 space = [{ name = "s", size = 64 }]
