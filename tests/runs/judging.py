@@ -2,6 +2,7 @@
 
 import csv
 import io
+import re
 from dataclasses import dataclass
 from itertools import combinations
 
@@ -27,6 +28,17 @@ def rows_of(text: str) -> list[Row]:
             break
         found.append(Row(int(line[places["start"]]), int(line[places["finish"]]), line[places["affinity"]], int(line[places["worker"]])))
     return found
+
+
+def drift_in(told: str) -> int:
+    """The per cent of a drift that is told, 0 where none is."""
+    found = re.fullmatch(r"waff: Drift ([1-9][0-9]*)\n", told)
+    return int(found[1]) if found else 0
+
+
+def most_told(took: float, drift: int) -> float:
+    """How many seconds may be told of a run that took so many, with this drift: a hundredth more without one."""
+    return (1 + max(1, drift + 1) / 100) * took
 
 
 def is_timed(rows: list[Row]) -> bool:
