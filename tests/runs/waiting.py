@@ -63,7 +63,7 @@ def waitings(ticks: int) -> list[Waiting]:
 
 
 def long_waitings(ticks: int) -> list[Waiting]:
-    """Where two times count that are equal, and not their sum. They have to be longer than a run may be late."""
+    """Two equal times of which one counts and not their sum: as long as a run may be late, at least."""
     return [
         Waiting("a gap and a think time", ticks, [row(1, "A"), row(2, "A", ticks, f"1+{ticks}")]),
         Waiting("a gap and one who is late", ticks, [row(1), row(2, release=ticks), row(3, after=f"1+{ticks} 2")]),
@@ -71,12 +71,12 @@ def long_waitings(ticks: int) -> list[Waiting]:
 
 
 def two_clients(ticks: int) -> list[Waiting]:
-    """One that awaits the messages of two clients, for those of which one takes so long: the first, then the last."""
+    """A message that awaits those of two clients, of which one takes so long: the first one, then the last."""
     return [Waiting(f"{which} takes long", ticks, [row(1, "A"), row(2, "B"), row(3, "C", after="1 2")]) for which in ("the first", "the last")]
 
 
 def crossing(dice: random.Random) -> Waiting:
-    """As many messages with files of their own as there can be, some of clients, which wait for each other; one knows not how long."""
+    """Messages with files of their own, some of clients, that wait for each other."""
     rows, owns = list[str](), dict[str, list[int]]()
     for number in range(1, LEAVES):
         own = owns.setdefault(client := dice.choice("--AB"), [])
@@ -162,17 +162,18 @@ def greatest(found: list[Awaited], is_own: bool) -> int:
     return max((it.gap for it in found if it.is_own == is_own), default=0)
 
 
-# Which issue messages too early, and which too late.
-EARLY: dict[str, Rule] = {
+# Those that issue messages too early, and those that do so too late.
+TOO_EARLY: dict[str, Rule] = {
     "counts one less": of_list(lambda found: max(sorted(it.end for it in found)[:-1], default=0)),
     "takes the first piece alone": of_list(lambda found: found[0].end),
     "takes the last piece alone": of_list(lambda found: found[-1].end),
     "takes the gap of who finishes last": of_list(lambda found: max(found, key=lambda it: it.finish).end),
+    "counts gaps from the beginning of the run": of_list(lambda found: max(max(it.finish, it.gap) for it in found)),
     "takes no gap": of_list(lambda found: max(it.finish for it in found)),
     "takes no list": of_list(lambda _: 0),
     "takes the list in place of the client": lambda found: right([it for it in found if not it.is_own] or found),
 }
-LATE: dict[str, Rule] = {
+TOO_LATE: dict[str, Rule] = {
     "takes the sum of the gaps": of_list(lambda found: max(it.finish for it in found) + sum(it.gap for it in found)),
     "takes the greatest gap": of_list(lambda found: max(it.finish for it in found) + max(it.gap for it in found)),
     "adds the gap to the think time": lambda found: max((it.finish for it in found), default=0) + greatest(found, True) + greatest(found, False),
@@ -210,7 +211,7 @@ def refused_by_calls(rule: Rule, found: list[Waiting]) -> dict[str, list[str]]:
 
 def wrong_programs(count: Count, found: list[Waiting], tick: float) -> None:
     """Each wrong program is refused, and one that is right is not; those that are too early are by their calls, too."""
-    for name, rule in (EARLY | LATE).items():
+    for name, rule in (TOO_EARLY | TOO_LATE).items():
         count.check(f"refused: a program that {name}", refused_by(rule, found, tick))
     wrong_calls(count, found)
     refused = refused_by(right, found, tick)
@@ -218,7 +219,7 @@ def wrong_programs(count: Count, found: list[Waiting], tick: float) -> None:
 
 
 def wrong_calls(count: Count, found: list[Waiting]) -> None:
-    for name, rule in EARLY.items():
+    for name, rule in TOO_EARLY.items():
         count.check(f"refused by its calls: a program that {name}", refused_by_calls(rule, found))
     refused = refused_by_calls(right, found)
     count.check("not refused by its calls: a program that is right", not refused, refused)
