@@ -5,13 +5,14 @@ import resource
 import signal
 import subprocess
 import tempfile
+import time
 from collections.abc import Callable, Iterator
 from pathlib import Path
 
 from common import Count
 from hierarchies import hierarchy
+from making import HEADERS
 
-HEADERS = {1: "message,cost,ops", 2: "message,cost,release,ops", 3: "message,cost,release,client,think,ops"}
 PLAIN = """model = "hierarchical"
 affinity = [{ name = "root" }, { name = "a", parent = "root" }, { name = "b", parent = "root" }]
 space = [{ name = "s", size = 64 }]
@@ -19,6 +20,10 @@ map = [{ space = "s", unit = 1, to = ["a", "b"] }]
 """
 TWO = "message,cost,ops\nm,1,set s:0 5\nm,1,set s:1 6\n"
 MARK = ".waff"
+# What a run that is told may say beside it.
+DRIFT = r"(waff: Drift [1-9][0-9]*\n)?"
+# How often a run may be tried on a machine that has other work.
+TRIES = 6
 
 
 def leaves(count: int) -> str:
@@ -48,6 +53,16 @@ class Room:
     def run(self, *words: str, hier: str = "hier.toml", trace: str = "trace.csv", disk: str = "disk", **more: object) -> subprocess.CompletedProcess[str]:
         command = self.command(*words, hier=hier, trace=trace, disk=disk)
         return subprocess.run(command, cwd=self.folder, capture_output=True, text=True, timeout=60, **more)
+
+    def timed(self, *words: str) -> tuple[subprocess.CompletedProcess[str], float]:
+        """A run and how many seconds it took; of another one where a message took too long on a machine that has other work."""
+        for _ in range(TRIES):
+            began = time.monotonic()
+            run = self.run(*words)
+            took = time.monotonic() - began
+            if not run.stderr.startswith("waff: Tick"):
+                break
+        return run, took
 
     def marked(self) -> "Room":
         """The folder is one in which a run was."""

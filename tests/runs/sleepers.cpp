@@ -6,8 +6,8 @@
 // A step is what a worker does under the lock, or one look at the offer, in the order of the workers of crates/waff_run. What is behind
 // the lock is seen by nobody else before it is let go, so one step has it all. A condition variable wakes any of those that sleep on it.
 // The clock goes on at any time, up to the last issue that is known. A message excludes those of a
-// graph, which stands for any tree, waits for its release, and may be issued some ticks after the end of another, as a client's. Left out
-// is what only delays, and what messages do.
+// graph, which stands for any tree, waits for its release, and is issued when those have ended that it awaits, each for some ticks: one as a
+// client's, several by a list. Left out is what only delays, and what messages do.
 //
 // A worker that performs a message is inside its gate, and may stay there. A worker sleeps in vain where a message may begin and nobody
 // that is awake and outside a gate takes it. tests/interleavings.hpp says which states are wrong.
@@ -41,18 +41,24 @@ struct Protocol {
     bool keeps_an_earlier_deadline_than_another = true;
     bool sleeps_under_the_lock = true;
     bool looks_again_when_it_has_the_lock = true;
+    bool tells_all_that_await = true;
 };
 
 constexpr int MOST_WORKERS = 4;
 constexpr int MOST_MESSAGES = 5;
 constexpr uint8_t NEVER = 255;
 
-// A message: which others it excludes, a bit for each, when it is released, and after which it is issued, from 1, and how many ticks after.
+// A message that is awaited, from 1, and for how many ticks after its end.
+struct Piece {
+    uint8_t message;
+    uint8_t gap;
+};
+
+// A message: which others it excludes, a bit for each, when it is released, and which it awaits.
 struct Message {
-    uint8_t excludes;
-    uint8_t release;
-    uint8_t follows;
-    uint8_t think;
+    uint8_t excludes = 0;
+    uint8_t release = 0;
+    std::vector<Piece> awaits = {};
 };
 
 using Load = std::vector<Message>;
@@ -81,7 +87,8 @@ struct State {
     uint8_t now;
     uint8_t joined, begun, ended;      // a bit for each message
     uint8_t needs[MOST_MESSAGES];      // those before which it does not begin
-    uint8_t issue[MOST_MESSAGES];      // when it is issued, NEVER where that is not known
+    uint8_t told[MOST_MESSAGES];       // those that it awaits and that have ended, a bit for each
+    uint8_t due[MOST_MESSAGES];        // when it is issued by those and its release
     uint8_t keeper;
     uint8_t asleep;
     uint8_t offer;
@@ -102,7 +109,7 @@ public:
         State state;
         std::memset(&state, 0, sizeof state);
         state.keeper = NEVER;
-        for (int m = 0; m < messages(); m++) state.issue[m] = load_[size_t(m)].follows == 0 ? load_[size_t(m)].release : NEVER;
+        for (int m = 0; m < messages(); m++) state.due[m] = load_[size_t(m)].release;
         return state;
     }
 
@@ -131,6 +138,11 @@ private:
     int messages() const { return int(load_.size()); }
     uint8_t all() const { return uint8_t(bit(messages()) - 1); }
 
+    // When a message is issued, NEVER where that is not known.
+    uint8_t issue(const State& state, int m) const {
+        return size_t(__builtin_popcount(state.told[m])) == load_[size_t(m)].awaits.size() ? state.due[m] : NEVER;
+    }
+
     // Whether the clock goes on: up to the last release, and to each issue that is known.
     bool has_time(const State& state) const {
         int last = 0;
@@ -145,10 +157,10 @@ private:
             if (state.begun & bit(m)) continue;
             if (state.joined & bit(m)) {
                 if ((state.needs[m] & ~state.ended) == 0) return true;
-            } else if (state.issue[m] <= state.now) {
+            } else if (issue(state, m) <= state.now) {
                 uint8_t before = uint8_t(load_[size_t(m)].excludes & state.joined & ~state.ended);
                 for (int other = 0; other < messages(); other++) {
-                    bool is_earlier = state.issue[other] < state.issue[m] || (state.issue[other] == state.issue[m] && other < m);
+                    bool is_earlier = issue(state, other) < issue(state, m) || (issue(state, other) == issue(state, m) && other < m);
                     if (!(state.joined & bit(other)) && is_earlier) before |= load_[size_t(m)].excludes & bit(other);
                 }
                 if (before == 0) return true;
@@ -162,7 +174,7 @@ private:
         int first = -1;
         for (int m = 0; m < messages(); m++) {
             bool may = (state.joined & bit(m)) && !(state.begun & bit(m)) && (state.needs[m] & ~state.ended) == 0;
-            if (may && (first < 0 || state.issue[m] < state.issue[first])) first = m;
+            if (may && (first < 0 || issue(state, m) < issue(state, first))) first = m;
         }
         return first;
     }
@@ -171,7 +183,7 @@ private:
     uint8_t next(const State& state) const {
         uint8_t least = NEVER;
         for (int m = 0; m < messages(); m++)
-            if (!(state.joined & bit(m)) && state.issue[m] < least) least = state.issue[m];
+            if (!(state.joined & bit(m))) least = std::min(least, issue(state, m));
         return least;
     }
 
@@ -180,7 +192,7 @@ private:
         while (next(state) <= state.now) {
             uint8_t least = next(state);
             for (int m = 0; m < messages(); m++) {
-                if ((state.joined & bit(m)) || state.issue[m] != least) continue;
+                if ((state.joined & bit(m)) || issue(state, m) != least) continue;
                 state.needs[m] = uint8_t(load_[size_t(m)].excludes & state.joined & ~state.ended);
                 state.joined |= bit(m);
                 break;
@@ -190,9 +202,14 @@ private:
 
     void end(State& state, int m) const {
         state.ended |= bit(m);
-        for (int later = 0; later < messages(); later++)
-            if (load_[size_t(later)].follows == m + 1)
-                state.issue[later] = uint8_t(std::max(int(load_[size_t(later)].release), state.now + load_[size_t(later)].think));
+        for (int later = m + 1; later < messages(); later++) {
+            for (const Piece& piece : load_[size_t(later)].awaits) {
+                if (piece.message != m + 1) continue;
+                state.told[later] |= bit(m);
+                state.due[later] = uint8_t(std::max(int(state.due[later]), state.now + piece.gap));
+                if (!protocol_.tells_all_that_await) return;
+            }
+        }
     }
 
     void wake_all(State& state) const {
@@ -360,13 +377,39 @@ std::vector<Load> loads_of(int messages) {
     return loads;
 }
 
+// All loads of so many messages of which each two exclude each other or not, and the later one awaits the other at once, after a tick, or
+// does not. All are released at once.
+std::vector<Load> lists_of(int messages) {
+    std::vector<Load> loads;
+    int pairs = messages * (messages - 1) / 2;
+    for (int choice = 0; choice < 1 << 2 * pairs; choice++) {
+        Load load(static_cast<size_t>(messages));
+        int pair = 0;
+        for (int later = 1; later < messages; later++) {
+            for (int before = 0; before < later; before++, pair++) {
+                int kind = choice >> 2 * pair & 3;
+                if (kind == 1) {
+                    load[size_t(later)].excludes |= bit(before);
+                    load[size_t(before)].excludes |= bit(later);
+                } else if (kind > 1) {
+                    load[size_t(later)].awaits.push_back({uint8_t(before + 1), uint8_t(kind - 2)});
+                }
+            }
+        }
+        loads.push_back(load);
+    }
+    return loads;
+}
+
 // A client that thinks, beside messages that are released later, and one that excludes both.
-const Load CLIENT = {{bit(3), 0, 0, 0}, {0, 0, 1, 2}, {0, 2, 0, 0}, {bit(0), 1, 0, 0}};
+const Load CLIENT = {{bit(3), 0, {}}, {0, 0, {{1, 2}}}, {0, 2, {}}, {bit(0), 1, {}}};
 // Messages that one after another release all others: a barrier, and who waits behind it.
-const Load BARRIER = {{uint8_t(bit(1) | bit(2) | bit(3)), 0, 0, 0}, {bit(0), 0, 0, 0}, {bit(0), 0, 0, 0}, {bit(0), 1, 0, 0}};
+const Load BARRIER = {{uint8_t(bit(1) | bit(2) | bit(3)), 0, {}}, {bit(0), 0, {}}, {bit(0), 0, {}}, {bit(0), 1, {}}};
 // Two deadlines, the earlier of which becomes known while the later one is kept.
-const Load EARLIER = {{0, 0, 0, 0}, {0, 3, 0, 0}, {0, 0, 1, 1}, {0, 3, 0, 0}};
-const Load LONG = {{0, 0, 0, 0}, {0, 0, 1, 1}, {0, 0, 2, 1}, {0, 1, 0, 0}, {bit(3), 2, 0, 0}};
+const Load EARLIER = {{0, 0, {}}, {0, 3, {}}, {0, 0, {{1, 1}}}, {0, 3, {}}};
+const Load LONG = {{0, 0, {}}, {0, 0, {{1, 1}}}, {0, 0, {{2, 1}}}, {0, 1, {}}, {bit(3), 2, {}}};
+// Several that await one, at once and later, and one that awaits them and somebody who is late.
+const Load FAN = {{0, 0, {}}, {0, 0, {{1, 0}}}, {0, 0, {{1, 0}}}, {0, 2, {}}, {0, 0, {{2, 1}, {3, 0}, {4, 1}}}};
 
 // The protocol has no wrong state under these loads.
 void is_right(const std::string& name, const std::vector<Load>& loads, int workers, int early) {
@@ -407,12 +450,15 @@ void small() {
             is_right("an earlier deadline", {EARLIER}, workers, early);
         }
         is_right("a long client", {LONG}, 2, early);
+        is_right("a fan", {FAN}, 2, early);
+        is_right("lists of 3 messages", lists_of(3), 3, early);
+        is_right("lists of 4 messages", lists_of(4), 2, early);
     }
 }
 
 void wrong() {
     std::vector<Load> few = loads_of(3);
-    for (const Load& load : {CLIENT, BARRIER, EARLIER, LONG}) few.push_back(load);
+    for (const Load& load : {CLIENT, BARRIER, EARLIER, LONG, FAN}) few.push_back(load);
     auto without = [&](const char* name, bool Protocol::*part) {
         Protocol protocol;
         protocol.*part = false;
@@ -428,6 +474,7 @@ void wrong() {
     without("an earlier deadline is not kept where one is", &Protocol::keeps_an_earlier_deadline_than_another);
     without("who sleeps lets the lock go before", &Protocol::sleeps_under_the_lock);
     without("who wakes does not look", &Protocol::looks_again_when_it_has_the_lock);
+    without("of those that await a message one alone is told", &Protocol::tells_all_that_await);
 }
 
 void large() {
@@ -435,6 +482,8 @@ void large() {
         is_right("loads of 4 messages", loads_of(4), 3, early);
         is_right("loads of 3 messages", loads_of(3), 4, early);
         is_right("a long client", {LONG}, 3, early);
+        is_right("a fan", {FAN}, 3, early);
+        is_right("lists of 4 messages", lists_of(4), 3, early);
         for (const Load& load : {CLIENT, BARRIER, EARLIER}) is_right("one of the others", {load}, 4, early);
     }
 }

@@ -7,6 +7,7 @@
  *                    ended, in nanoseconds of the monotonic clock
  * WATCH_MEET=A,B     a read or write of a file whose name ends in /A waits until there is one of a file whose name ends in /B, and the
  *                    other way round; after some seconds it fails
+ * WATCH_SLOW=N,A     a read or write of a file whose name ends in /A takes N microseconds more; of any file without A
  * WATCH_THREADS=N    after N threads no more is started */
 #define _GNU_SOURCE
 #include <dlfcn.h>
@@ -35,6 +36,8 @@ static volatile long count;
 static char names[MOST_FILES][LONGEST];
 static char met[2][64];
 static volatile int here[2];
+static char slow[64];
+static long slower;
 static long threads = -1;
 static volatile long started;
 
@@ -45,10 +48,11 @@ static int64_t now(void) {
 }
 
 __attribute__((constructor)) static void begin(void) {
-    const char *meet = getenv("WATCH_MEET"), *most = getenv("WATCH_THREADS");
+    const char *meet = getenv("WATCH_MEET"), *most = getenv("WATCH_THREADS"), *late = getenv("WATCH_SLOW");
     if (getenv("WATCH_LOG")) calls = calloc(MOST_CALLS, sizeof *calls);
     if (meet) sscanf(meet, "%63[^,],%63s", met[0], met[1]);
     if (most) threads = atol(most);
+    if (late) sscanf(late, "%ld,%63s", &slower, slow);
 }
 
 /* The name of an open file, which is asked for at the first call on it. */
@@ -94,9 +98,14 @@ static int meets(int file) {
     return 1;
 }
 
+static void delay(int file) {
+    if (slower && (!slow[0] || ends_in(name_of(file), slow))) nanosleep(&(struct timespec){slower / 1000000, slower % 1000000 * 1000}, 0);
+}
+
 ssize_t pread(int file, void *bytes, size_t length, off_t offset) {
     int64_t began = now();
     if (!meets(file)) return errno = EIO, -1;
+    delay(file);
     ssize_t done = syscall(SYS_pread64, file, bytes, length, offset);
     note('r', file, offset, (long)length, began);
     return done;
@@ -105,6 +114,7 @@ ssize_t pread(int file, void *bytes, size_t length, off_t offset) {
 ssize_t pwrite(int file, const void *bytes, size_t length, off_t offset) {
     int64_t began = now();
     if (!meets(file)) return errno = EIO, -1;
+    delay(file);
     ssize_t done = syscall(SYS_pwrite64, file, bytes, length, offset);
     note('w', file, offset, (long)length, began);
     return done;
