@@ -3,6 +3,7 @@
 While the log is read, each call that orders threads or makes requests is noted. When it is read, they are walked in the order of the log."""
 
 import collections
+import dataclasses
 import heapq
 from collections.abc import Callable, Iterable, Iterator, Sequence
 from dataclasses import dataclass, field
@@ -15,8 +16,8 @@ from .order_walk import KINDS, Named, Tally, Walk
 from .prices import keeping_thinks
 from .processes import Who
 
-# What `--order` is without this word. The program reads no traces of version 4 yet; when it does, this is `all`.
-USUAL = "none"
+# What `--order` is without this word, where there are clients in a closed loop.
+USUAL = "all"
 # What stands behind a call that strace was told to delay.
 DELAYED = "(DELAYED)"
 
@@ -109,20 +110,47 @@ class Order:
     def items(self, kept: Sequence[Request]) -> Iterator[Item]:
         """These requests, in the order in which they began."""
         numbers = sorted((self.number[id(it)] for it in kept), key=lambda at: (self.requests[at].time, self.begun[at], at))
-        wanted, known = set(numbers), set[int]()
-        mine: set[str] = set()
-        of = self.frontiers
+        wanted, known, of = set(numbers), set[int](), self.frontiers
+        # The last request of each thread; and what is in turn where clients are no threads.
+        last: dict[str, int] = {}
+        turns = None if all(self.requests[at].client == of.whose[at] for at in numbers) else Turns(self.requests)
         for at in numbers:
-            it, client = self.requests[at], of.whose[at]
+            it, thread = self.requests[at], of.whose[at]
             every = after = of.after[at]
-            is_first = client not in mine
+            before = last.get(thread)
             if any(entry[0] not in known for entry in every):
                 after = [entry for entry in every if entry[0] in known]
                 self.backwards += sum(entry[0] in wanted and entry[0] not in known for entry in every)
-            came = len(after) < len(every) or is_first and of.thinks[at] > 0
-            yield Item(at, it, 0 if is_first else of.thinks[at], of.releases[at], after, came)
+            came = len(after) < len(every) or before is None and of.thinks[at] > 0
+            item = Item(at, it, 0 if before is None else of.thinks[at], of.releases[at], after, came)
+            yield item if turns is None else turns.take(item, before)
             known.add(at)
-            mine.add(client)
+            last[thread] = at
+
+
+class Turns:
+    """The requests of clients that have several threads. What a thread waits for within its client becomes the order of that client, whose
+    requests are done in turn."""
+
+    def __init__(self, requests: Sequence[Request]) -> None:
+        self.requests = requests
+        # When each request ended, and the last one of each client.
+        self.ended: dict[int, int] = {}
+        self.last: dict[str, int] = {}
+
+    def take(self, item: Item, before: int | None) -> Item:
+        """The next one, with its client's think time and what it waits for of other clients. `before` is the last one of its thread."""
+        it, came = item.request, 0 if before is None else self.ended[before]
+        begun, others = came + item.think, list[Edge]()
+        for edge in item.after:
+            if self.requests[edge[0]].client == it.client:
+                begun = max(begun, self.ended[edge[0]] + edge[1])
+            else:
+                others.append(edge)
+        last = self.last.get(it.client)
+        self.last[it.client] = item.number
+        self.ended[item.number] = max(it.time, came) + (it.took or 0)
+        return dataclasses.replace(item, think=0 if last is None else max(0, begun - self.ended[last]), after=others)
 
 
 @dataclass(slots=True)
