@@ -202,28 +202,32 @@ def in_seconds(nanoseconds: int) -> str:
 
 
 class Bracket:
-    """How many requests run at once in the mean where nothing but these waits: by clients and order, by clients alone, and if each comes
-    behind all that had finished before it. They are taken in the order of their beginnings; of a group of one call the first began."""
+    """How many requests run at once in the mean where nothing but these waits: by clients and order, by clients alone, where there are any, and if
+    each comes behind all that had finished before it. They are taken in the order of their beginnings; of a group of one call the first began."""
 
-    def __init__(self) -> None:
+    def __init__(self, has_clients: bool = True) -> None:
+        self.has_clients = has_clients
         self.total = 0
         # By the number of a request and by client, when it ends if costs are all the time that there is.
         self.ends: dict[int, int] = {}
         self.last: dict[str, int] = {}
         self.alone: dict[str, int] = {}
         self.finished: dict[str, int] = {}
-        # Those that had not finished when the last one began: when each did, and its end here; and the latest end of the others.
+        # Those that had not finished when the last one began: when each did, and its end here; the latest end of the others, and of all.
         self.running: list[tuple[int, int]] = []
-        self.before = 0
+        self.before = self.latest = 0
 
     def take(self, it: Request, cost: int, took: int) -> None:
         """Takes a request that waits for its client alone, and took so long in the log."""
         client, running = it.client, self.running
         self.total += cost
-        self.alone[client] = self.alone.get(client, 0) + cost
         while running and running[0][0] <= it.time:
             self.before = max(self.before, heapq.heappop(running)[1])
-        end = self.finished[client] = max(self.before, self.finished.get(client, 0)) + cost
+        end = self.before + cost
+        if self.has_clients:
+            self.alone[client] = self.alone.get(client, 0) + cost
+            end = self.finished[client] = max(self.before, self.finished.get(client, 0)) + cost
+        self.latest = max(self.latest, end)
         heapq.heappush(running, (it.time + took, end))
 
     def take_ordered(self, item: Item, cost: int) -> None:
@@ -232,20 +236,22 @@ class Bracket:
         client = item.request.client
         self.ends[item.number] = self.last[client] = max([self.last.get(client, 0), *[self.ends[it] for it, _, _ in item.after]]) + cost
 
-    def figure(self, longest: Iterable[int]) -> str:
-        return f"{self.total / max(1, max(longest, default=0)):.2f}"
+    def figure(self, longest: int) -> str:
+        return f"{self.total / max(1, longest):.2f}"
 
     def text(self) -> str:
-        by_clients = f"{self.figure(self.alone.values())} by clients alone"
-        finished = f"{self.figure(self.finished.values())} if all comes behind what had finished before it"
+        ways = [f"{self.figure(max(self.ends.values()))} times in parallel by clients and order"] if self.ends else []
+        if self.has_clients:
+            ways.append(f"{self.figure(max(self.alone.values(), default=0))} by clients alone")
+        ways.append(f"{self.figure(self.latest)} if all comes behind what had finished before it")
         if not self.ends:
-            return f"at once {by_clients.replace(' by', ' times in parallel by')}, {finished}"
-        return f"at once {self.figure(self.ends.values())} times in parallel by clients and order, {by_clients}, {finished}"
+            ways[0] = ways[0].replace(" ", " times in parallel ", 1)
+        return f"at once {', '.join(ways)}"
 
 
-def bracket(requests: Iterable[Request], price_of: Callable[[Request], int], measured: bool) -> Bracket:
-    """The bracket of requests in the order of their beginnings, of which nothing but clients is known. What has no latency takes its price."""
-    found = Bracket()
+def bracket(requests: Iterable[Request], price_of: Callable[[Request], int], measured: bool, has_clients: bool) -> Bracket:
+    """The bracket of requests in the order of their beginnings, of whose order nothing but clients is known. What has no latency takes its price."""
+    found = Bracket(has_clients)
     for it in requests:
         if isinstance(it, Data) or it.ops:
             price = price_of(it)
