@@ -120,7 +120,10 @@ class Walk:
             return
         found = self.threads[birth.whose.thread] = Thread(birth.whose.thread, birth.whose.process, birth.whose.box, parent.last)
         self.note(found, birth.whose.number)
-        if not self.join(found, parent.here(), 0, "fork"):
+        if self.join(found, parent.here(), 0, "fork"):
+            # What the parent had waited for keeps its kind.
+            found.why.update(parent.why)
+        else:
             found.own[START] = [(-1, parent.last - self.frontiers.start)]
 
     def called(self, box: str, number: str) -> str:
