@@ -41,6 +41,8 @@ class Record:
         self.births: list[Birth] = []
         self.named: dict[int, list[Named]] = {}
         self.whose: dict[str, Whose] = {}
+        # The paths of named pipes.
+        self.fifos: set[str] = set()
         self.is_delayed = False
 
     def of(self, who: Who, number: str, box: str) -> Whose:
@@ -72,7 +74,7 @@ class Record:
         self.named.setdefault(request, []).append(("needs", key))
 
     def solved(self, requests: Sequence[Request]) -> "Order":
-        walk = Walk(requests, self.kinds, self.named)
+        walk = Walk(requests, self.kinds, self.named, self.fifos)
         walk.go(self.steps, self.births)
         begun = [0] * len(requests)
         for place, made in zip(self.steps.begun, self.steps.requests, strict=True):
