@@ -6,7 +6,7 @@ import re
 
 import orders
 from calling import GOOD, HERE, PLAIN, WITH_LISTS, called, check, run, same, text, waff
-from wafftrace import lists
+from wafftrace import limits, lists
 
 # The fields of messages; and whose each is, and when it is issued.
 Rows = list[list[str]]
@@ -74,6 +74,14 @@ def ordered(scratch: pathlib.Path) -> None:
                 same(f"order, log {number}: {words}", again, found)
             kept_by_words(scratch, number, rows[1:], wanted)
             planned(scratch, number, rows[1:], wanted)
+
+
+def too_many(_scratch: pathlib.Path) -> None:
+    """More pieces of lists than the program takes are told, here of a program that takes one."""
+    most, limits.AWAITED = limits.AWAITED, 1
+    _, told = called("strace", HERE / "order" / "children.strace", "--cwd", "/v")
+    limits.AWAITED = most
+    check("too many pieces", "2 pieces of lists are more than the 1 that waff takes: `waff-trace window` parts the trace" in told, told)
 
 
 def planned(scratch: pathlib.Path, number: int, rows: Rows, wanted: Issued) -> None:

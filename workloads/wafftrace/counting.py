@@ -228,7 +228,7 @@ def stats(asked: Namespace) -> str:
             f"lists,{found.waiting}",
             f"pieces,{found.pieces}",
             f"longest-list,{found.longest}",
-            f"over-pieces,{max(0, found.pieces - lists.PIECES)}",
+            f"over-pieces,{max(0, found.pieces - limits.AWAITED)}",
             f"over-gap,{found.over_gap}",
             f"at-once,{max(found.at_once.finishes, default=0)}",
             f"at-once-without-lists,{max(found.clients.costs.values(), default=0)}",

@@ -7,8 +7,6 @@ from . import clients
 
 # A message that is waited for, by its number from 1, and the ticks between its finish and the issue.
 Piece = tuple[int, int]
-# How long a list a trace has in all.
-PIECES = 4194304
 GAP = re.compile(r"\+[0-9]+")
 
 
