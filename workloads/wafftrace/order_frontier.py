@@ -188,13 +188,13 @@ class Frontiers:
         self.since[number], self.base[number], self.known[number] = now, number, known
         for via, gap, _ in self.after[number]:
             more = gap - now
-            keep_latest(known, self.whose[via], via, more)
-            more += self.since[via]
-            for client, (it, behind) in self.known[self.base[via]].items():
-                keep_latest(known, client, it, behind + more)
+            keep_latest(known, {self.whose[via]: (via, 0)}, more)
+            keep_latest(known, self.known[self.base[via]], more + self.since[via])
 
 
-def keep_latest(known: dict[str, Entry], client: str, number: int, gap: int) -> None:
-    old = known.get(client)
-    if old is None or number > old[0] or number == old[0] and gap > old[1]:
-        known[client] = number, gap
+def keep_latest(known: dict[str, Entry], others: dict[str, Entry], more: int) -> None:
+    """Takes other entries, with gaps that are so much greater, where they are of later requests."""
+    for client, (number, gap) in others.items():
+        old = known.get(client)
+        if old is None or number > old[0] or number == old[0] and gap + more > old[1]:
+            known[client] = number, gap + more
