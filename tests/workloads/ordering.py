@@ -55,15 +55,13 @@ def ordered(scratch: pathlib.Path) -> None:
         same(f"order {log.stem}", found, text(log.with_suffix(".csv")))
     for number in range(WORLDS):
         log = orders.log(number)
-        begun = [line.split(" ", 2) for line in log.splitlines() if " pwrite64(" in line]
-        if not begun:
+        wanted = as_recorded(log)
+        if not wanted:
             continue
         (scratch / "log").write_text(log)
         found, told = called("strace", scratch / "log", *"--cost latency --blocks none --cwd /v".split())
         rows = [line.split(",", 6) for line in found.splitlines()]
-        check(f"order, log {number}: messages", len(rows) == len(begun) + 1 and ",".join(rows[0]) + "\n" == WITH_LISTS, told)
-        micros = [int(time.replace(".", "")) for _, time, _ in begun]
-        wanted = [(who, time - min(micros)) for (who, _, _), time in zip(begun, micros)]
+        check(f"order, log {number}: messages", len(rows) == len(wanted) + 1 and ",".join(rows[0]) + "\n" == WITH_LISTS, told)
         check(f"order, log {number}: as in the log", issued(rows[1:]) == wanted, found)
         before = all(piece < place for place, row in enumerate(rows[1:], 1) for piece, _ in lists.pieces_of(row[5]))
         check(f"order, log {number}: lists name earlier messages", before, found)
@@ -74,6 +72,27 @@ def ordered(scratch: pathlib.Path) -> None:
                 same(f"order, log {number}: {words}", again, found)
             kept_by_words(scratch, number, rows[1:], wanted)
             planned(scratch, number, rows[1:], wanted)
+
+
+def as_recorded(log: str) -> Issued:
+    """Whose each request of such a log is, and when it comes after the first."""
+    begun = [line.split(" ", 2) for line in log.splitlines() if " pwrite64(" in line]
+    micros = [int(time.replace(".", "")) for _, time, _ in begun]
+    return [(who, time - min(micros)) for (who, _, _), time in zip(begun, micros)]
+
+
+def threaded(scratch: pathlib.Path) -> None:
+    """Processes of several threads, whose requests are done in turn: none is issued before it was in the log, and no list names a message of its
+    own client."""
+    for number in range(1, WORLDS, 2):
+        log = orders.log(number, has_threads=True)
+        (scratch / "log").write_text(log)
+        found, told = called("strace", scratch / "log", *"--clients process --cost latency --blocks none --cwd /v".split())
+        rows, recorded = [line.split(",", 6) for line in found.splitlines()[1:]], as_recorded(log)
+        soonest = all(time >= before for (_, time), (_, before) in zip(issued(rows), recorded))
+        check(f"threads, log {number}: none is early", len(rows) == len(recorded) and soonest, found + told)
+        own = [row for row in rows for piece, _ in lists.pieces_of(row[5]) if rows[piece - 1][3] == row[3]]
+        check(f"threads, log {number}: lists name others", not own, own)
 
 
 def too_many(_scratch: pathlib.Path) -> None:
