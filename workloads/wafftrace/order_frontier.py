@@ -105,12 +105,14 @@ class Frontiers:
 
     def join(self, thread: Thread, point: Point, more: int, kind: str) -> None:
         """Lets a thread come after a point by so much more, for a reason of this kind."""
-        own, more = dict(thread.own), point.clock + more - thread.clock
+        own, more = thread.own, point.clock + more - thread.clock
         for client, every in point.of.items():
             for number, gap in every:
                 old = own.get(client, NO_ENTRIES)
                 found = self.put(old, number, gap + more)
                 if found is not old:
+                    # Points have those of the thread, so they stay as they are.
+                    own = dict(own) if own is thread.own else own
                     own[client] = found
                     thread.why[number] = kind
         thread.own = own
