@@ -13,7 +13,8 @@ class World:
     """Processes that think, write to files, take locks and hand bytes through pipes. Each event is the beginning of a call, in the order of
     time, so what a call finds there is what was left by those that began before."""
 
-    def __init__(self, number: int) -> None:
+    def __init__(self, number: int, has_threads: bool) -> None:
+        self.has_threads = has_threads
         self.dice = random.Random(number)
         self.count = self.dice.randrange(2, 5)
         self.lines: list[tuple[int, int, str]] = []
@@ -42,7 +43,8 @@ class World:
         for at in range(self.count):
             time = self.dice.randrange(1, 15)
             if self.has_parent:
-                self.call(PARENT, 20 * at, 19, "clone(child_stack=NULL, flags=SIGCHLD", f") = {at + 1}")
+                flags = "CLONE_VM|CLONE_THREAD" if self.has_threads and at % 2 else "SIGCHLD"
+                self.call(PARENT, 20 * at, 19, f"clone(child_stack=NULL, flags={flags}", f") = {at + 1}")
                 time += 20 * at
             heapq.heappush(self.events, (time, at))
         if self.has_parent:
@@ -141,6 +143,7 @@ class World:
             self.wait_for_child(end + 3 + took + self.some())
 
 
-def log(number: int) -> str:
-    """A log, the same for the same number. Two processes may wait for each other for ever: their calls do not return."""
-    return World(number).log()
+def log(number: int, has_threads: bool = False) -> str:
+    """A log, the same for the same number. Two processes may wait for each other for ever: their calls do not return. Where there are threads,
+    every second child of a parent is one of it."""
+    return World(number, has_threads).log()

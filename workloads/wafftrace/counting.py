@@ -83,8 +83,9 @@ class Counts:
         self.called = called
         self.version = version
         self.most_ops = limits.OPS if version > 2 else limits.EARLIER_OPS
-        # Of lists: how many messages have one, the pieces of all, the most of one; and when messages are issued, as recorded and at once.
-        self.waiting = self.pieces = self.longest = 0
+        # Of lists: how many messages have one, the pieces of all, the most of one, gaps that are too long; and when messages are issued, as
+        # recorded and at once.
+        self.waiting = self.pieces = self.longest = self.over_gap = 0
         self.issues, self.at_once = lists.Issues(), lists.Issues()
         self.operations = self.last = self.think = 0
         self.over_ops = self.over_cost = self.over_release = self.over_think = 0
@@ -162,6 +163,7 @@ class Counts:
         for client, cost, release, think, it in zip(names, costs, releases, thinks, after, strict=True):
             if it:
                 count = it.count(" ") + 1
+                self.over_gap += sum(gap > limits.THINK for _, gap in lists.pieces_of(it)) if "+" in it else 0
                 self.waiting, self.pieces, self.longest = self.waiting + 1, self.pieces + count, max(self.longest, count)
             self.at_once.next(cost, 0, client, 0, lists.without_gaps(it))
             start = self.issues.next(cost, release, client, think, it)
@@ -226,7 +228,8 @@ def stats(asked: Namespace) -> str:
             f"lists,{found.waiting}",
             f"pieces,{found.pieces}",
             f"longest-list,{found.longest}",
-            f"over-pieces,{max(0, found.pieces - lists.PIECES)}",
+            f"over-pieces,{max(0, found.pieces - limits.AWAITED)}",
+            f"over-gap,{found.over_gap}",
             f"at-once,{max(found.at_once.finishes, default=0)}",
             f"at-once-without-lists,{max(found.clients.costs.values(), default=0)}",
         ]

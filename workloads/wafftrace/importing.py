@@ -32,11 +32,7 @@ def trace_of(asked: Namespace, read: model.Log) -> str:
     messages = messages_of(asked, found, shape, prices.Costs(table, measured, asked.tick), loop)
     if not measured:
         found.said += told_of_costs(found.requests, table)
-    if messages.order is not None:
-        found.logs[0].said += order.told(messages.order, messages.lists)
-        found.logs[0].said.append(order.bracket_of(messages.items, messages.item_costs).text())
-    elif loop is not None and loop.is_closed:
-        found.said += told_of_clients(found.requests, prices.price_of(table), measured)
+    tell_of_order(found, messages, prices.price_of(table), kind is not None)
     text = model.tree_text(found.store, shape, asked.stripes, provenance(asked, found, table, measured))
     found.report(len(messages.lines) - 1)
     model.warn(messages, shape, found.logs)
@@ -88,16 +84,17 @@ def costs_by(asked: Namespace, cost: str, requests: Iterable[Request]) -> prices
     return prices.Costs(prices.by_size(asked.base, asked.per_kib) if cost == "size" else table, cost == "latency", asked.tick)
 
 
-def told_of_clients(requests: Sequence[Request], price_of: Callable[[Request], int], measured: bool) -> list[str]:
-    """How many requests run at once where nothing but clients is known of their order; and that there is one client alone, and what to record in
-    its place. Of few requests nothing is told, nor of a log without latencies."""
-    if len(requests) < MANY:
-        return []
-    if len({it.client for it in requests}) == 1:
-        return [clients.ONE_CLIENT]
-    if all(it.took is None for it in requests):
-        return []
-    return [order.bracket(requests, price_of, measured).text()]
+def tell_of_order(found: model.Found, messages: model.Messages, price_of: Callable[[Request], int], has_clients: bool) -> None:
+    """The order between clients, and how many requests run at once where nothing but that is known; or that there is one client alone, and what
+    to record in its place. Of few requests without such an order nothing is told, nor of a log without latencies."""
+    requests, are_many = found.requests, len(found.requests) >= MANY
+    if has_clients and len({it.client for it in requests}) == 1:
+        found.said += [clients.ONE_CLIENT] if are_many else []
+    elif messages.order is not None:
+        found.logs[0].said += order.told(messages.order, messages.lists)
+        found.logs[0].said.append(order.bracket_of(messages.items, messages.item_costs).text())
+    elif are_many and any(it.took is not None for it in requests):
+        found.said.append(order.bracket(requests, price_of, messages.measured, has_clients).text())
 
 
 # Of each kind of requests what it costs in all, in nanoseconds.

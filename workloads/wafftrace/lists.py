@@ -7,8 +7,6 @@ from . import clients
 
 # A message that is waited for, by its number from 1, and the ticks between its finish and the issue.
 Piece = tuple[int, int]
-# How long a list a trace has in all.
-PIECES = 4194304
 GAP = re.compile(r"\+[0-9]+")
 
 
@@ -68,7 +66,7 @@ def parted(line: str) -> tuple[str, str, str]:
 
 def moved(messages: Sequence[tuple[int, str, str]], begin: int, number_of: Mapping[int, int]) -> Iterator[str]:
     """The lines of a window that begins at this tick. A message that is the first of its client there, or loses one that it waits for, comes
-    when it was issued."""
+    when it was issued. One of no client comes no sooner than at its floor."""
     known: set[str] = set()
     places: dict[int, int] = {}
     for place, entry in enumerate(messages, 1):
@@ -77,8 +75,10 @@ def moved(messages: Sequence[tuple[int, str, str]], begin: int, number_of: Mappi
         pieces = pieces_of(after)
         kept = [(places[number], gap) for number, gap in pieces if number in places]
         is_first = client == clients.NONE or client not in known
-        if is_first or len(kept) < len(pieces):
+        if len(kept) < len(pieces) or client not in known and client != clients.NONE:
             release = str(start - begin)
+        elif is_first:
+            release = str(max(0, int(release) - begin, int(think) - begin))
         elif release != "0":
             release = str(max(0, int(release) - begin))
         yield f"{name},{cost},{release},{client},{'0' if is_first else think},{text_of(kept)},{ops}"

@@ -611,6 +611,8 @@ def warn(messages: Messages, shape: Shape, logs: list[Lines]) -> None:
         messages.loop.warn()
         if messages.count > limits.ALL_OPS:
             tell(f"{messages.count} operations are more than the {limits.ALL_OPS} that waff takes: a larger --cell, or `waff-trace window`")
+    if messages.lists.pieces > limits.AWAITED:
+        tell(f"{messages.lists.pieces} pieces of lists are more than the {limits.AWAITED} that waff takes: `waff-trace window` parts the trace")
     refuse_clock(messages, logs)
     if messages.latest > limits.RELEASE:
         tell(f"the last release, {messages.latest}, is above {limits.RELEASE}: a larger --tick, or `waff-trace window`")

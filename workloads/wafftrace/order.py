@@ -3,6 +3,7 @@
 While the log is read, each call that orders threads or makes requests is noted. When it is read, they are walked in the order of the log."""
 
 import collections
+import dataclasses
 import heapq
 from collections.abc import Callable, Iterable, Iterator, Sequence
 from dataclasses import dataclass, field
@@ -15,8 +16,8 @@ from .order_walk import KINDS, Named, Tally, Walk
 from .prices import keeping_thinks
 from .processes import Who
 
-# What `--order` is without this word. The program reads no traces of version 4 yet; when it does, this is `all`.
-USUAL = "none"
+# What `--order` is without this word, where there are clients in a closed loop.
+USUAL = "all"
 # What stands behind a call that strace was told to delay.
 DELAYED = "(DELAYED)"
 
@@ -40,6 +41,8 @@ class Record:
         self.births: list[Birth] = []
         self.named: dict[int, list[Named]] = {}
         self.whose: dict[str, Whose] = {}
+        # The paths of named pipes.
+        self.fifos: set[str] = set()
         self.is_delayed = False
 
     def of(self, who: Who, number: str, box: str) -> Whose:
@@ -71,7 +74,7 @@ class Record:
         self.named.setdefault(request, []).append(("needs", key))
 
     def solved(self, requests: Sequence[Request]) -> "Order":
-        walk = Walk(requests, self.kinds, self.named)
+        walk = Walk(requests, self.kinds, self.named, self.fifos)
         walk.go(self.steps, self.births)
         begun = [0] * len(requests)
         for place, made in zip(self.steps.begun, self.steps.requests, strict=True):
@@ -109,20 +112,47 @@ class Order:
     def items(self, kept: Sequence[Request]) -> Iterator[Item]:
         """These requests, in the order in which they began."""
         numbers = sorted((self.number[id(it)] for it in kept), key=lambda at: (self.requests[at].time, self.begun[at], at))
-        wanted, known = set(numbers), set[int]()
-        mine: set[str] = set()
-        of = self.frontiers
+        wanted, known, of = set(numbers), set[int](), self.frontiers
+        # The last request of each thread; and what is in turn where clients are no threads.
+        last: dict[str, int] = {}
+        turns = None if all(self.requests[at].client == of.whose[at] for at in numbers) else Turns(self.requests)
         for at in numbers:
-            it, client = self.requests[at], of.whose[at]
+            it, thread = self.requests[at], of.whose[at]
             every = after = of.after[at]
-            is_first = client not in mine
+            before = last.get(thread)
             if any(entry[0] not in known for entry in every):
                 after = [entry for entry in every if entry[0] in known]
                 self.backwards += sum(entry[0] in wanted and entry[0] not in known for entry in every)
-            came = len(after) < len(every) or is_first and of.thinks[at] > 0
-            yield Item(at, it, 0 if is_first else of.thinks[at], of.releases[at], after, came)
+            came = len(after) < len(every) or before is None and of.thinks[at] > 0
+            item = Item(at, it, 0 if before is None else of.thinks[at], of.releases[at], after, came)
+            yield item if turns is None else turns.take(item, before)
             known.add(at)
-            mine.add(client)
+            last[thread] = at
+
+
+class Turns:
+    """The requests of clients that have several threads. What a thread waits for within its client becomes the order of that client, whose
+    requests are done in turn."""
+
+    def __init__(self, requests: Sequence[Request]) -> None:
+        self.requests = requests
+        # When each request ended, and the last one of each client.
+        self.ended: dict[int, int] = {}
+        self.last: dict[str, int] = {}
+
+    def take(self, item: Item, before: int | None) -> Item:
+        """The next one, with its client's think time and what it waits for of other clients. `before` is the last one of its thread."""
+        it, came = item.request, 0 if before is None else self.ended[before]
+        begun, others = came + item.think, list[Edge]()
+        for edge in item.after:
+            if self.requests[edge[0]].client == it.client:
+                begun = max(begun, self.ended[edge[0]] + edge[1])
+            else:
+                others.append(edge)
+        last = self.last.get(it.client)
+        self.last[it.client] = item.number
+        self.ended[item.number] = max(it.time, came) + (it.took or 0)
+        return dataclasses.replace(item, think=0 if last is None else max(0, begun - self.ended[last]), after=others)
 
 
 @dataclass(slots=True)
@@ -174,28 +204,32 @@ def in_seconds(nanoseconds: int) -> str:
 
 
 class Bracket:
-    """How many requests run at once in the mean where nothing but these waits: by clients and order, by clients alone, and if each comes
-    behind all that had finished before it. They are taken in the order of their beginnings; of a group of one call the first began."""
+    """How many requests run at once in the mean where nothing but these waits: by clients and order, by clients alone, where there are any, and if
+    each comes behind all that had finished before it. They are taken in the order of their beginnings; of a group of one call the first began."""
 
-    def __init__(self) -> None:
+    def __init__(self, has_clients: bool = True) -> None:
+        self.has_clients = has_clients
         self.total = 0
         # By the number of a request and by client, when it ends if costs are all the time that there is.
         self.ends: dict[int, int] = {}
         self.last: dict[str, int] = {}
         self.alone: dict[str, int] = {}
         self.finished: dict[str, int] = {}
-        # Those that had not finished when the last one began: when each did, and its end here; and the latest end of the others.
+        # Those that had not finished when the last one began: when each did, and its end here; the latest end of the others, and of all.
         self.running: list[tuple[int, int]] = []
-        self.before = 0
+        self.before = self.latest = 0
 
     def take(self, it: Request, cost: int, took: int) -> None:
         """Takes a request that waits for its client alone, and took so long in the log."""
         client, running = it.client, self.running
         self.total += cost
-        self.alone[client] = self.alone.get(client, 0) + cost
         while running and running[0][0] <= it.time:
             self.before = max(self.before, heapq.heappop(running)[1])
-        end = self.finished[client] = max(self.before, self.finished.get(client, 0)) + cost
+        end = self.before + cost
+        if self.has_clients:
+            self.alone[client] = self.alone.get(client, 0) + cost
+            end = self.finished[client] = max(self.before, self.finished.get(client, 0)) + cost
+        self.latest = max(self.latest, end)
         heapq.heappush(running, (it.time + took, end))
 
     def take_ordered(self, item: Item, cost: int) -> None:
@@ -204,20 +238,22 @@ class Bracket:
         client = item.request.client
         self.ends[item.number] = self.last[client] = max([self.last.get(client, 0), *[self.ends[it] for it, _, _ in item.after]]) + cost
 
-    def figure(self, longest: Iterable[int]) -> str:
-        return f"{self.total / max(1, max(longest, default=0)):.2f}"
+    def figure(self, longest: int) -> str:
+        return f"{self.total / max(1, longest):.2f}"
 
     def text(self) -> str:
-        by_clients = f"{self.figure(self.alone.values())} by clients alone"
-        finished = f"{self.figure(self.finished.values())} if all comes behind what had finished before it"
+        ways = [f"{self.figure(max(self.ends.values()))} times in parallel by clients and order"] if self.ends else []
+        if self.has_clients:
+            ways.append(f"{self.figure(max(self.alone.values(), default=0))} by clients alone")
+        ways.append(f"{self.figure(self.latest)} if all comes behind what had finished before it")
         if not self.ends:
-            return f"at once {by_clients.replace(' by', ' times in parallel by')}, {finished}"
-        return f"at once {self.figure(self.ends.values())} times in parallel by clients and order, {by_clients}, {finished}"
+            ways[0] = ways[0].replace(" ", " times in parallel ", 1)
+        return f"at once {', '.join(ways)}"
 
 
-def bracket(requests: Iterable[Request], price_of: Callable[[Request], int], measured: bool) -> Bracket:
-    """The bracket of requests in the order of their beginnings, of which nothing but clients is known. What has no latency takes its price."""
-    found = Bracket()
+def bracket(requests: Iterable[Request], price_of: Callable[[Request], int], measured: bool, has_clients: bool) -> Bracket:
+    """The bracket of requests in the order of their beginnings, of whose order nothing but clients is known. What has no latency takes its price."""
+    found = Bracket(has_clients)
     for it in requests:
         if isinstance(it, Data) or it.ops:
             price = price_of(it)

@@ -105,12 +105,14 @@ class Frontiers:
 
     def join(self, thread: Thread, point: Point, more: int, kind: str) -> None:
         """Lets a thread come after a point by so much more, for a reason of this kind."""
-        own, more = dict(thread.own), point.clock + more - thread.clock
+        own, more = thread.own, point.clock + more - thread.clock
         for client, every in point.of.items():
             for number, gap in every:
                 old = own.get(client, NO_ENTRIES)
                 found = self.put(old, number, gap + more)
                 if found is not old:
+                    # Points have those of the thread, so they stay as they are.
+                    own = dict(own) if own is thread.own else own
                     own[client] = found
                     thread.why[number] = kind
         thread.own = own
@@ -188,13 +190,13 @@ class Frontiers:
         self.since[number], self.base[number], self.known[number] = now, number, known
         for via, gap, _ in self.after[number]:
             more = gap - now
-            keep_latest(known, self.whose[via], via, more)
-            more += self.since[via]
-            for client, (it, behind) in self.known[self.base[via]].items():
-                keep_latest(known, client, it, behind + more)
+            keep_latest(known, {self.whose[via]: (via, 0)}, more)
+            keep_latest(known, self.known[self.base[via]], more + self.since[via])
 
 
-def keep_latest(known: dict[str, Entry], client: str, number: int, gap: int) -> None:
-    old = known.get(client)
-    if old is None or number > old[0] or number == old[0] and gap > old[1]:
-        known[client] = number, gap
+def keep_latest(known: dict[str, Entry], others: dict[str, Entry], more: int) -> None:
+    """Takes other entries, with gaps that are so much greater, where they are of later requests."""
+    for client, (number, gap) in others.items():
+        old = known.get(client)
+        if old is None or number > old[0] or number == old[0] and gap + more > old[1]:
+            known[client] = number, gap + more

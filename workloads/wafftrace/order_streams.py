@@ -89,4 +89,7 @@ class Streams:
         """The point at which a pipe that was full had room for what is written now; None where it was not full."""
         stream = self.all[channel]
         needed = stream.written - ROOM
-        return next((point for upto, point in stream.reads if upto >= needed), None) if needed > 0 else None
+        # What is needed only grows.
+        while stream.reads and stream.reads[0][0] < needed:
+            stream.reads.popleft()
+        return stream.reads[0][1] if needed > 0 and stream.reads else None

@@ -66,12 +66,13 @@ class Tally:
 
 
 class Walk:
-    """Goes through the steps of a log. `kinds` are the reasons that count, `named` what requests make and need."""
+    """Goes through the steps of a log. `kinds` are the reasons that count, `named` what requests make and need, `fifos` paths of pipes."""
 
-    def __init__(self, requests: Sequence[Request], kinds: frozenset[str], named: dict[int, list[Named]]) -> None:
+    def __init__(self, requests: Sequence[Request], kinds: frozenset[str], named: dict[int, list[Named]], fifos: set[str]) -> None:
         self.frontiers = Frontiers(requests)
         self.kinds = kinds
         self.named = named
+        self.fifos = fifos
         self.tally = Tally()
         self.threads: dict[str, Thread] = {}
         self.alive: dict[str, set[str]] = collections.defaultdict(set)
@@ -120,7 +121,10 @@ class Walk:
             return
         found = self.threads[birth.whose.thread] = Thread(birth.whose.thread, birth.whose.process, birth.whose.box, parent.last)
         self.note(found, birth.whose.number)
-        if not self.join(found, parent.here(), 0, "fork"):
+        if self.join(found, parent.here(), 0, "fork"):
+            # What the parent had waited for keeps its kind.
+            found.why.update(parent.why)
+        else:
             found.own[START] = [(-1, parent.last - self.frontiers.start)]
 
     def called(self, box: str, number: str) -> str:
@@ -202,9 +206,12 @@ class Walk:
             number, path = descriptor_of(step.asked.args)
             self.locks.give_up((path, "flock"), (step.whose.process, number), Range(), point)
 
+    def channel(self, step: Step, path: str, writes: bool) -> Channel | None:
+        return (step.whose.box, path) if path in self.fifos else channel_of(step.whose.box, path, writes)
+
     def close(self, thread: Thread, step: Step, point: Point) -> None:
         number, path = descriptor_of(step.asked.args)
-        channel = channel_of(step.whose.box, path, True)
+        channel = self.channel(step, path, True)
         if channel is not None:
             self.streams.close(channel, point)
         elif path:
@@ -213,7 +220,7 @@ class Walk:
     def closed_by_copy(self, thread: Thread, step: Step, point: Point) -> None:
         """dup2 closes what was open under the second descriptor."""
         found = DUPLICATED.search(step.asked.args)
-        channel = channel_of(step.whose.box, found[2], True) if found else None
+        channel = self.channel(step, found[2], True) if found else None
         if channel is not None and len(channel) == 2:
             self.streams.close(channel, point)
 
@@ -235,7 +242,7 @@ class Walk:
             self.written(step, paths[0] if step.asked.name == "sendfile" else paths[1], point)
 
     def written(self, step: Step, path: str, point: Point) -> None:
-        channel = channel_of(step.whose.box, path, True)
+        channel = self.channel(step, path, True)
         if channel is not None:
             self.streams.write(channel, step.whose.process, step.asked.count, point)
         elif ALONE.match(path):
@@ -390,7 +397,7 @@ class Walk:
             path = next(iter(SHOWN.findall(step.asked.args)), "")
         if "signalfd" in path:
             return self.told_of_signal(thread, step)
-        channel = channel_of(step.whose.box, path, False)
+        channel = self.channel(step, path, False)
         if channel is None:
             self.tally.without_peer += ALONE.match(path) is not None
             return False
@@ -419,7 +426,7 @@ class Walk:
 
     def send(self, thread: Thread, step: Step) -> bool:
         """A write to a pipe that was full waits for the read that made room."""
-        channel = channel_of(step.whose.box, descriptor_of(step.asked.args)[1], True)
+        channel = self.channel(step, descriptor_of(step.asked.args)[1], True)
         if step.asked.has_failed or channel is None or len(channel) != 2 or step.end - step.time < NO_WAIT:
             return False
         point = self.streams.room(channel)

@@ -61,7 +61,8 @@ def order(by: str, over: str) -> Order:
 @dataclass(frozen=True, slots=True)
 class Source:
     """A trace that trees are ranked for: its file, how many messages it has, their cost, the last release, the operations of the
-    largest, how many clients it has (0 where it has none), and whether no message is released later and no client ever thinks."""
+    largest, how many clients it has (0 where it has none), and whether no message is released later, no client
+    ever thinks and no list has a gap."""
 
     name: str
     messages: int
@@ -77,7 +78,7 @@ class Source:
         return Source(
             name, len(found), sum(it.cost for it in found), max((it.release for it in found), default=0),
             max((it.count() for it in found), default=1), len({it.client for it in found} - {NONE}),
-            not any(it.release or it.think for it in found),
+            not any(it.release or it.think or "+" in it.after for it in found),
         )
 
 

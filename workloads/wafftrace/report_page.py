@@ -213,10 +213,12 @@ class Page:
             columns = {"limit": "limit", "workers": "workers", "length": "length", "speedup": "speed-up", "at": "where"}
             found = table(under.limits.rows(), columns, f"table-limits-{number}", words=("limit", "at"))
             tables.append(f"<div>{self.heading(under)}{found}</div>")
+        has_lists = any(row["limit"] == "after" for it in report.trees for row in it.limits.rows())
+        after = " <b>after</b>: these, and what messages await of other clients, with the gaps behind it." if has_lists else ""
         self.section(
             "limits", "What limits it",
             "<p>Each limit but the last two is a lower bound on the length (makespan) of plans in any order. <b>data</b>: the messages that touch"
-            " one cell, under every tree. <b>clients</b>: a client's messages and think times. <b>work</b>: all costs over the workers."
+            f" one cell, under every tree. <b>clients</b>: a client's messages and think times.{after} <b>work</b>: all costs over the workers."
             " <b>tree</b>: the messages at or above one affinity. <b>order</b>: the plan without a limit on workers, in the service order."
             " <b>plan</b>: the plan for the workers.</p>",
             f'<div class="charts">{"".join(charts)}</div>' if self.charts else "", f'<div class="charts">{"".join(tables)}</div>',

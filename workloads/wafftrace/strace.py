@@ -10,7 +10,7 @@ from fractions import Fraction
 from .logs import Lines, Refusal, Request, as_name, counted, named, shown
 from .long_text import LongTexts
 from .model import Found
-from .order import Record, kinds_of
+from .order import USUAL, Record, kinds_of
 from .processes import Births, Event, Merged, Source
 from .strace_calls import FLAGS_WANTED, Calls
 from .strace_names import Names
@@ -29,6 +29,20 @@ def boxes_of(asked: Namespace) -> dict[str, str]:
             raise Refusal(2, f"--box {shown(word)}: wanted is LOG=NAME, of a LOG that is given and a NAME of up to 20 letters and digits")
         boxes |= dict.fromkeys(logs, f"{name}.")
     return boxes
+
+
+def order_of(asked: Namespace) -> frozenset[str]:
+    """What of the order between clients the trace keeps: all, where nothing else is asked for and clients are in a closed loop."""
+    can_wait = asked.clients is not None and asked.loop != "open"
+    asked.is_usual_order = asked.order is None
+    if asked.order is None:
+        asked.order = USUAL if can_wait and asked.trace_version is None else "none"
+    kinds = kinds_of(asked.order)
+    if kinds and not can_wait:
+        raise Refusal(2, "--order: wanted are clients in a closed loop, since others come when they came in the log")
+    if kinds and asked.trace_version is not None:
+        raise Refusal(2, f"--trace-version {asked.trace_version}: it has no lists, so wanted is --order none")
+    return kinds
 
 
 def folder_of(asked: Namespace) -> str:
@@ -81,9 +95,7 @@ def read(asked: Namespace) -> Found:
     """What the logs tell. Their lines are read twice and not kept: what comes later tells who made which process."""
     if not asked.logs:
         raise Refusal(2, "strace: no LOG is given (--box takes all words behind it, so the logs stand before it)")
-    kinds = kinds_of(asked.order)
-    if kinds and (asked.clients != "thread" or asked.loop == "open"):
-        raise Refusal(2, "--order: wanted is --clients thread and a closed loop, since it is threads that wait")
+    kinds = order_of(asked)
     boxes, texts = boxes_of(asked), LongTexts()
     wanted = f"record it with `{FLAGS_WANTED}`"
     sources = [Source(Lines(name, 0, wanted), boxes[name], texts.of(name)) for name in asked.logs]
@@ -106,6 +118,9 @@ def read(asked: Namespace) -> Found:
         if asked.family_depth is None:
             whole.said.append(f"a family is what comes of a process {depth} below the first one (--clients family:DEPTH says how far)")
     found = Found(requests.names.store, part.of(requests.requests, whole), [whole], logs if len(logs) > 1 else [])
+    if order is not None and asked.is_usual_order and all(it.took is None for it in requests.requests):
+        found.said.append("the log has no latencies (strace -T), so the trace keeps no order between clients")
+        order, asked.order = None, "none"
     found.order = order.solved(requests.requests) if order is not None else None
     if under and not requests.requests:
         found.said.append(f"no call of the log is on a file in {named(under)} or below it (--under)")

@@ -1,6 +1,7 @@
 """The calls of a log of strace: whose each is, which process made which, and what a call asked and answered when it returns."""
 
 import collections
+import re
 from collections.abc import Iterable
 
 from .logs import Lines, Refusal
@@ -8,10 +9,13 @@ from .order import Record
 from .order_steps import CALLS as ORDERED
 from .order_steps import what_counts
 from .processes import FORKED, FORKS, RESUMED, UNFINISHED, Birth, Children, Event, Process, Who, nanoseconds, parted
-from .strace_names import SAY_FOLDER, Call, absolute
+from .strace_names import DESCRIPTOR, SAY_FOLDER, Call, absolute
 from .strace_requests import CALLS, Requests
 
 FLAGS_WANTED = "strace -f -ttt -T -o LOG"
+# Calls that show what a file is, and how they show a named pipe.
+NODES = frozenset(("mknod", "mknodat", "stat", "lstat", "fstat", "fstat64", "newfstatat", "statx"))
+FIFO = re.compile(r'(?:_mode=|", )S_IFIFO')
 
 
 class Calls:
@@ -133,6 +137,8 @@ class Calls:
         took = nanoseconds(seconds, digits) if digits else None
         if self.order is None:
             return self.returned(at, process, name, args, (result, path), (time, took))
+        if name in NODES and result == "0" and FIFO.search(args):
+            self.note_fifo(self.order, process, args)
         made = self.requests.requests
         before = len(made)
         is_understood = self.returned(at, process, name, args, (result, path), (time, took))
@@ -141,6 +147,15 @@ class Calls:
             whose = self.order.of(process.who, pid, process.box)
             self.order.call(whose, begun, at, time, time + (took or 0), words, range(before, len(made)))
         return is_understood
+
+    def note_fifo(self, order: Record, process: Process, args: str) -> None:
+        """A call shows a named pipe, by its path or by a descriptor."""
+        path = self.requests.names.path(Call(process, args, 0, None, 0, None))
+        if path is None:
+            shown = DESCRIPTOR.match(args)
+            path = absolute(shown[2]) if shown else None
+        if path is not None:
+            order.fifos.add(path)
 
     def returned(
         self, at: int, process: Process, name: str, args: str, answer: tuple[str, str | None], times: tuple[int, int | None]

@@ -60,7 +60,10 @@ class Requests:
             self.order.needs(len(self.requests), file)
 
     def moved(self, call: Call, found: Open, kind: str, at: int, length: int, took: int | None) -> None:
-        """A request for bytes that a call has read or written."""
+        """A request for bytes that a call has read or written. Those of a named pipe are of no file where they order clients."""
+        if self.order is not None and found.path in self.order.fifos:
+            self.idle[kind] += 1
+            return
         file = found.file
         if length == 0:
             self.requests.append(Meta(call.time, took, kind, [("read", VOLUME, "inode", file.inode)], (), self.client(call)))

@@ -283,7 +283,7 @@ def cure(sources: list[Source]) -> str:
     """What to do where messages hardly wait: nothing where no client ever pauses."""
     if all(it.clients == 1 for it in sources):
         return f"; {ONE_CLIENT}"
-    return "" if all(it.is_at_once for it in sources) else " (`waff-trace pace`)"
+    return "" if all(it.is_at_once for it in sources) else " (`waff-trace pace --at-once` leaves out the pauses of the trace)"
 
 
 def tell_pricings(asked: Namespace, sources: list[Source], old: tuple[Tree, Row], new: tuple[Tree, Row], key: Order) -> None:

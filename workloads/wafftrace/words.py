@@ -115,10 +115,9 @@ def speed(word: str) -> Fraction:
     return Fraction(word)
 
 
-def imported(part: ArgumentParser) -> None:
-    """The words that all kinds of logs take."""
-    if part.get_default("order") is None:
-        part.set_defaults(order="none")
+def imported(part: ArgumentParser, order: str | None = "none") -> None:
+    """The words that all kinds of logs take. `order` is what a trace keeps of the order between clients, where nothing is said."""
+    part.set_defaults(order=order)
     part.add_argument("--tree", metavar="FILE", help="write a hierarchy that accepts the trace to this file")
     part.add_argument(
         "--map", metavar="FILE", help="write which cells are whose to this file (space, first and last cell, path or device)"
@@ -169,7 +168,8 @@ def of_clients(part: ArgumentParser, kinds: tuple[str, ...], usual: str, has_lan
     )
     part.add_argument(
         "--trace-version", choices=["2", "3"],
-        help="the version of the trace: 3, the default, or 2, which has no clients and no ranges (--clients none)",
+        help="the version of the trace: 3, which has no lists of what messages await, or 2, which has no clients and no ranges (--clients none);"
+        " without it 4 where there is an order between clients, else 3",
     )
     part.add_argument(
         "--loop", choices=["closed", "open"],
@@ -282,15 +282,16 @@ def words_of_logs(part: Callable[..., ArgumentParser]) -> None:
     found.add_argument("--under", metavar="FOLDER", help="take only files in this folder or below it")
     found.add_argument("--cwd", metavar="FOLDER", help="where the first process was started, for names that begin there; the current folder")
     found.add_argument(
-        "--order", metavar="{all,none,KIND,..}", default=USUAL,
-        help=f"what of one thread's waits for another the trace keeps, as version 4: some of {', '.join(KINDS)} ({USUAL})",
+        "--order", metavar="{all,none,KIND,..}",
+        help=f"what of the waits of clients for each other the trace keeps, as version 4: some of {', '.join(KINDS)} ({USUAL}, where there"
+        " are clients in a closed loop)",
     )
     for word, to, which in (("--from", "begin", "from then on"), ("--to", "end", "before then")):
         found.add_argument(
             word, metavar="SECONDS|TEXT", dest=to,
             help=f"take only requests {which}: so many seconds after the first line, or the first line that has this text",
         )
-    imported(found)
+    imported(found, None)
     of_volume(found)
     of_clients(found, ("thread", "process", "family", "none"), "thread")
 

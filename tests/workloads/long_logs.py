@@ -1,0 +1,40 @@
+"""Long logs of each kind."""
+
+import random
+from collections.abc import Iterator
+
+# So many lines has each.
+LINES = 100000
+
+
+def long_logs() -> Iterator[tuple[list[str], list[str]]]:
+    """Logs of 100,000 lines of each kind, as words and text."""
+    dice = random.Random(7)
+    lines = []
+    for n in range(LINES // 5):
+        at = 10**9 + n * 50
+        moment = f"{at // 10**6}.{at % 10**6:06}"
+        offset = dice.randrange(64) * 4096
+        lines += [
+            f'{n % 4 + 1} {moment} openat(AT_FDCWD, "/srv/d{n % 50}/f{n % 2000}", O_RDWR|O_CREAT, 0644) = 3 <0.000012>',
+            f'{n % 4 + 1} {moment} write(3, "\\1\\0\\0\\0abc"..., 8192) = 8192 <0.000034>',
+            f'{n % 4 + 1} {moment} pread64(3, "abc"..., 16384, {offset}) = 16384 <0.0000{dice.randrange(10, 99)}>',
+            f"{n % 4 + 1} {moment} fstat(3, {{st_mode=S_IFREG|0644, st_size=8192, ...}}) = 0 <0.000003>",
+            f"{n % 4 + 1} {moment} close(3) = 0 <0.000003>",
+        ]
+    yield ["strace", "-"], lines
+    yield ["strace", "-", "--order", "none"], lines
+    lines = ["fio version 3 iolog", "1 /srv/a add", "2 /srv/a open"]
+    lines += [f"{n * 7} /srv/a {dice.choice(['read', 'write'])} {dice.randrange(5000) * 4096} 8192" for n in range(LINES - 3)]
+    yield ["fio", "-"], lines
+    lines = []
+    for n in range(LINES // 2):
+        place = f"R {n % 4096 * 16} + 16"
+        lines += [f"  8,0    1 {n * 2 + 1:8} {n // 10000:5}.{n % 10000 * 100000:09}    10  D   {place} [fio]"]
+        lines += [f"  8,0    1 {n * 2 + 2:8} {n // 10000:5}.{n % 10000 * 100000 + 77000:09}     0  C   {place} [0]"]
+    yield ["blkparse", "-"], lines
+    lines = []
+    for n in range(LINES):
+        kind, offset = dice.choice(["Read", "Write"]), dice.randrange(10**6) * 4096
+        lines.append(f"{128166372003061629 + n * 900},src1,{n % 2},{kind},{offset},8192,{dice.randrange(9000)}")
+    yield ["msr", "-"], lines
