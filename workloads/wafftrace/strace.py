@@ -118,7 +118,7 @@ def read(asked: Namespace) -> Found:
         if asked.family_depth is None:
             whole.said.append(f"a family is what comes of a process {depth} below the first one (--clients family:DEPTH says how far)")
     found = Found(requests.names.store, part.of(requests.requests, whole), [whole], logs if len(logs) > 1 else [])
-    if order is not None and asked.is_usual_order and all(it.took is None for it in requests.requests):
+    if order is not None and asked.is_usual_order and requests.requests and all(it.took is None for it in requests.requests):
         found.said.append("the log has no latencies (strace -T), so the trace keeps no order between clients")
         order, asked.order = None, "none"
     found.order = order.solved(requests.requests) if order is not None else None
