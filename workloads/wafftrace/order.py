@@ -189,7 +189,7 @@ def told(order: Order, lists: Lists) -> list[str]:
     if order.backwards:
         lines.append(f"{counted(order.backwards, 'edges')} left out, to requests that the clock of the log tells to be later")
     if tally.has_threads and not order.is_delayed:
-        lines.append("WARNING: threads share memory, and a lock that is free shows in no log: the order may lack edges (record slow: workloads/README.md)")
+        lines.append("WARNING: threads share memory, and a mutex that is free shows in no log: the order may lack edges (record slow: workloads/README.md)")
     if tally.without_peer:
         lines.append(f"WARNING: {counted(tally.without_peer, 'calls')} on sockets without another end, which order nobody (strace -yy ties both ends)")
     return lines
