@@ -7,4 +7,4 @@ pub const VERSION: &str = "0.1.0";
 pub const LONG_VERSION: &str = "\
 0.1.0
 logic: dac8208d650f15bf
-sources: 73a89857ae0fc30c";
+sources: 650f213380087b83";

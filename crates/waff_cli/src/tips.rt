@@ -55,7 +55,7 @@ fn tip(command: &str, text: &str) -> Option<(&'static str, &'static str)> {
     if command == "replay" && text.contains(SHORT_WORKERS) {
         return Some((SHORT_WORKERS, LONG_WORKERS));
     }
-    if text.contains(ONE_NUMBER) && text.contains(',') {
+    if text.contains(ONE_NUMBER) && before(text, ONE_NUMBER).contains(',') {
         return Some((ONE_NUMBER, SEVERAL_NUMBERS));
     }
     for said in OUTPUTS.iter() {
@@ -64,4 +64,9 @@ fn tip(command: &str, text: &str) -> Option<(&'static str, &'static str)> {
         }
     }
     None
+}
+
+/// What stands before the first place of these words in a text.
+fn before<'a>(text: &'a str, words: &'static str) -> &'a str {
+    text.split(words).next().unwrap_or("")
 }
