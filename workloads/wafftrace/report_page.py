@@ -9,7 +9,7 @@ from string import Template
 
 from .report_answers import Answer, Ran, Report, Row, Under
 from .report_charts import (
-    PARTS, RUN_WORDS, Charts, Stack, allowed_of, least_of_any_tree, map_of, run_rows, stack_of, stacks_of,
+    PARTS, RUN_WORDS, Charts, Stack, bounds_of, least_of_any_tree, map_of, run_rows, stack_of, stacks_of,
 )
 
 # So many rows of a table are shown, with a word on those left out.
@@ -182,7 +182,7 @@ class Page:
         lines = []
         for under in self.report.trees:
             row, stack = under.figures(), stack_of(under, under.workers)
-            rows = {it["limit"]: it for it in allowed_of(under)}
+            rows = {it["limit"]: it for it in bounds_of(under)}
             part = max(range(len(PARTS)), key=lambda it: stack.parts[it])
             length, least = int(row["length"]), least_of_any_tree(under)
             told = (
@@ -202,9 +202,8 @@ class Page:
         report, workers = self.report, max(self.report.workers)
         stacks = stacks_of(report.trees, report.workers)
         charts = [
-            figure(self.chart("chart-allowed", "allowed", report.trees),
-                   f"The speed-up that each limit allows by itself, for {of_workers(workers)}; the last line is the plan. A step of the axis is"
-                   " ten times as much."),
+            figure(self.chart("chart-bounds", "bounds", report.trees),
+                   f"How long each limit by itself makes the plan for {of_workers(workers)}; the last line is the plan."),
             figure(self.chart("chart-limits", "stacks", stacks),
                    "What the length of the plan is made of, by tree and number of workers: what each limit adds to those before it."),
         ]
@@ -218,7 +217,8 @@ class Page:
         self.section(
             "limits", "What limits it",
             "<p>Each limit but the last two is a lower bound on the length (makespan) of plans in any order. <b>data</b>: the messages that touch"
-            f" one cell, under every tree. <b>clients</b>: a client's messages and think times.{after} <b>work</b>: all costs over the workers."
+            f" one cell, under every tree. <b>writes</b>: those that write one, with the longest that only reads it. <b>clients</b>: a client's"
+            f" messages and think times.{after} <b>work</b>: all costs over the workers."
             " <b>tree</b>: the messages at or above one affinity. <b>order</b>: the plan without a limit on workers, in the service order."
             " <b>plan</b>: the plan for the workers.</p>",
             f'<div class="charts">{"".join(charts)}</div>' if self.charts else "", f'<div class="charts">{"".join(tables)}</div>',
