@@ -48,7 +48,7 @@ class Stack:
 
 
 # What the parts of a stack are called.
-PARTS = ("data and clients", "tree", "order", "workers", "plan")
+PARTS = ("data, clients", "tree", "order", "workers", "plan")
 
 
 def stack_of(under: Under, workers: int) -> Stack:
@@ -111,13 +111,18 @@ def shortened(text: str, most: int = 30) -> str:
 
 
 def columns_of(texts: list[str], room: float, most: int) -> int:
-    """So many columns, filled one after another as a legend is, have room for these texts: the room is in letters."""
+    """So many columns, filled one after another as a legend is, have room for these texts, each behind its colour: the room is in letters."""
     for columns in range(most, 1, -1):
         size, more = divmod(len(texts), columns)
         begins = [at * size + min(at, more) for at in range(columns + 1)]
-        if sum(max(map(len, texts[begin:end]), default=0) + 4 for begin, end in pairwise(begins)) <= room:
+        if sum(max(map(len, texts[begin:end]), default=0) + 7 for begin, end in pairwise(begins)) <= room:
             return columns
     return 1
+
+
+def most_speed(under: Under, row: Row) -> float:
+    """The speed-up that no plan passes, of a line of `sweep`: all costs over the lower bound."""
+    return int(under.plan.values()["total"]) / max(1, int(row["least"]))
 
 
 class Charts:
@@ -223,18 +228,22 @@ class Charts:
         """Speed-up against workers, with the upper bound of all plans as a dashed line."""
         figure, axes = self.new(3.2)
         top, widest = 1.0, 1
+        ends: list[tuple[float, int, str]] = []
         for at, under in enumerate(trees):
             rows = sorted((row for row in under.sweep.rows() if row["workers"] != "-"), key=lambda row: int(row["workers"]))
             workers = [int(row["workers"]) for row in rows]
-            total = int(under.plan.values()["total"])
             speeds = [number_of(row["speedup"]) for row in rows]
-            ceilings = [total / max(1, int(row["least"])) for row in rows]
+            ceilings = [most_speed(under, row) for row in rows]
             (line,) = axes.plot(workers, speeds, color=hue(at), marker="o", markersize=4, linewidth=1.8)
             line.set_gid(f"mark-{at}")
-            (line,) = axes.plot(workers, ceilings, color=hue(at), linestyle=(0, (4, 3)), linewidth=1)
+            (line,) = axes.plot(workers, ceilings, color=hue(at), linestyle=(4 * at, (4, 4)), linewidth=1)
             line.set_gid(f"ceiling-{at}")
-            axes.annotate(rows[-1]["speedup"], (workers[-1], speeds[-1]), (5, 0), textcoords="offset points", va="center", fontsize=8)
+            ends.append((speeds[-1], workers[-1], rows[-1]["speedup"]))
             top, widest = max(top, *speeds, *ceilings), max(widest, *workers)
+        for number, (speed, workers_of, told) in enumerate(sorted(ends)):
+            # Of curves that end together one has its number here, and all in the table.
+            if number == 0 or speed - sorted(ends)[number - 1][0] > top / 20:
+                axes.annotate(told, (workers_of, speed), (5, 0), textcoords="offset points", va="center", fontsize=8)
         axes.plot([1, widest], [1, widest], color=QUIET, linewidth=0.8, linestyle=":")
         axes.set_ylim(0, top * 1.12)
         axes.set_xlim(left=min(1, widest))
