@@ -256,7 +256,7 @@ class Charts:
         return self.text(figure, name)
 
     def waits(self, under: Under, name: str) -> str:
-        """A map: the row waits for the column, the darker the longer in all."""
+        """A map: the row waits for the column, the stronger the colour the longer in all."""
         order, ticks, _ = map_of(under)
         told = [shortened(it) if it != "-" else "a worker" for it in order]
         names = 0.075 * max(map(len, told), default=1) + 0.5

@@ -204,7 +204,7 @@ class Page:
         template = importlib.resources.files(__package__).joinpath("report.html").read_text(encoding="utf-8")
         return Template(template).substitute(
             title=escaped(report.title), version=escaped(report.version), colours=colours(),
-            paper=f":root{{color-scheme:light;{properties(LIGHT)}}}", about=about,
+            paper=f":root{{color-scheme:light;{properties(LIGHT)}}}", about=about, alone=' class="alone"' if len(report.trees) == 1 else "",
             contents=" ".join(f'<a href="#{name}">{heading}</a>' for name, heading, _ in self.sections),
             body="\n".join(filter(None, body)),
         )
@@ -290,13 +290,13 @@ class Page:
             left_out = f"The longest waits, {MOST_ROWS} of {len(lines):,} pairs" if len(lines) > MOST_ROWS else "The longest waits first"
             drawn = self.chart(
                 f"chart-waits-{number}", "waits", under if order else None,
-                f"Messages of the row's affinity wait for those of the column's, the darker the longer.{note}",
+                f"Messages of the row's affinity wait for those of the column's: the stronger the colour, the longer.{note}",
                 table(rows, columns, f"table-waits-{number}", left_out, words),
                 folded(rest, columns, f"table-waits-more-{number}", f"The other {len(rest):,} pairs of the picture", words),
             )
             parts.append(f"<div>{self.heading(under)}{drawn}</div>")
         intro = (
-            f"<p>For {of_workers(max(self.report.workers))}. A dark cross is an affinity that stops those below it; a dark cell of the diagonal"
+            f"<p>For {of_workers(max(self.report.workers))}. A cross of strong colour is an affinity that stops those below it; such a cell of the diagonal"
             " one that is hot.</p>"
         )
         self.section("waits", "Who waits for whom", intro, blocks(*parts), made_by(*(it.waits for it in self.report.trees)))
