@@ -71,6 +71,18 @@ class Chart:
                     yield f"cut: {told}"
 
 
+    def crowded(self) -> Iterator[str]:
+        """The figures of the lower axis that stand in each other."""
+        reached = 0.0
+        ticks = [self.named[f"xtick_{it}"] for it in range(1, len(self.texts("xtick_")) + 1)]
+        for it in (text for tick in ticks for text in tick.iter(f"{SVG}text") if text.get("x") is not None):
+            told = "".join(it.itertext())
+            middle, half = float(it.get("x", "0")), LETTER * 9 * len(told) / 2
+            if middle - half < reached:
+                yield f"crowded: {told}"
+            reached = middle + half
+
+
 def anchor(style: str) -> str:
     found = re.search(r"text-anchor: (\w+)", style)
     return found[1] if found else "start"

@@ -178,7 +178,7 @@ class Charts:
                 self.bar(axes, line - 0.4 + step * (at + 0.5), [int(row["length"])], [hue(at)], step * 0.9, most, f"mark-{at}-{line}")
         self.lengths(axes, bars, most)
         axes.set_ylabel("limit")
-        self.legend(axes, [(hue(at), under.label) for at, under in enumerate(trees)] if len(trees) > 1 else [])
+        self.legend(axes, [(hue(at), under.label) for at, under in enumerate(trees)] if len(trees) > 1 else [], self.room(bars))
         return self.text(figure, name)
 
     def bar(self, axes: Any, place: float, parts: list[int], hues: list[str], height: float, most: int, mark: str) -> None:
@@ -191,23 +191,28 @@ class Charts:
             reached += length
         axes.text(reached + most / 100, place, f"{reached:,}", va="center", fontsize=8)
 
+    def room(self, bars: Sequence[str] = ("123456",)) -> float:
+        """So many letters have room at the side of the names of bars, or of the figures of an axis."""
+        return self.width * LETTERS - 4 - max(map(len, bars))
+
     def lengths(self, axes: Any, bars: list[str], most: int) -> None:
         """The axes of bars of lengths, from the first one down."""
         axes.set_xlim(0, max(1, most) * 1.18)
         axes.set_yticks(range(len(bars)), bars)
         axes.invert_yaxis()
         axes.set_xlabel("ticks")
-        axes.xaxis.set_major_locator(self.ticker.MaxNLocator(max(2, min(6, 44 // len(f"{most:,}  "))), integer=True))
+        ticks = int(0.8 * self.room(bars)) // len(f"{most:,}  ")
+        axes.xaxis.set_major_locator(self.ticker.MaxNLocator(max(2, min(6, ticks)), integer=True))
         self.thousands(axes.xaxis)
         axes.grid(axis="x")
 
-    def legend(self, axes: Any, entries: Sequence[tuple[str, str]], most: int = 3) -> None:
+    def legend(self, axes: Any, entries: Sequence[tuple[str, str]], room: float, most: int = 3) -> None:
         """A legend above the picture, which is higher where the legend has many lines."""
         if entries:
             handles = [self.patches.Patch(color=color) for color, _ in entries]
             # matplotlib leaves out what begins with an underscore.
             told = [text if not text.startswith("_") else f"\u200b{text}" for text in (shortened(it) for _, it in entries)]
-            columns = columns_of(told, self.width * LETTERS - 10, most)
+            columns = columns_of(told, room, most)
             figure = axes.figure
             figure.set_figheight(figure.get_figheight() + 0.17 * max(0, -(-len(told) // columns) - 2))
             axes.legend(handles, told, loc="lower left", bbox_to_anchor=(0, 1), ncols=columns, handlelength=1, borderaxespad=0.3)
@@ -219,9 +224,10 @@ class Charts:
         hues = [hue(part + 1) for part in range(len(PARTS))]
         for line, stack in enumerate(stacks):
             self.bar(axes, line, stack.parts, hues, 0.72, most, f"mark-{line}")
-        self.lengths(axes, [f"{shortened(it.label)}, {it.workers}" for it in stacks], most)
+        bars = [f"{shortened(it.label, 16)}, {it.workers}" for it in stacks]
+        self.lengths(axes, bars, most)
         axes.set_ylabel("tree, workers")
-        self.legend(axes, list(zip(hues, PARTS, strict=True)), 5)
+        self.legend(axes, list(zip(hues, PARTS, strict=True)), self.room(bars), 5)
         return self.text(figure, name)
 
     def speeds(self, trees: list[Under], name: str) -> str:
@@ -252,7 +258,7 @@ class Charts:
         axes.set_xlabel("workers")
         axes.set_ylabel("speed-up")
         axes.grid()
-        self.legend(axes, [(hue(at), under.label) for at, under in enumerate(trees)])
+        self.legend(axes, [(hue(at), under.label) for at, under in enumerate(trees)], self.room())
         return self.text(figure, name)
 
     def waits(self, under: Under, name: str) -> str:
@@ -298,7 +304,7 @@ class Charts:
         axes.set_ylabel("ticks from issue to finish")
         self.thousands(axes.yaxis)
         axes.grid()
-        self.legend(axes, [(hue(at), it.rule) for at, it in enumerate(under.latencies)])
+        self.legend(axes, [(hue(at), it.rule) for at, it in enumerate(under.latencies)], self.room())
         return self.text(figure, name)
 
     def run(self, ran: Ran, name: str) -> str:
