@@ -10,7 +10,7 @@ LIMITS = ("clients", "after", "writes", "data", "work", "tree", "order", "plan")
 # A page of a window of 400 pixels has so much room beside its margins.
 NARROW = 376
 # Letters are at least so wide, in parts of their height.
-LETTER = 0.45
+LETTER = 0.55
 
 Points = list[tuple[float, float]]
 Found = list[str]
