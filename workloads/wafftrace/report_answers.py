@@ -129,6 +129,8 @@ class Report:
     log: str | None = None
     log_name: str = ""
     made: str = ""
+    # The ticks that the pictures show.
+    span: tuple[int, int] = (0, 0)
     # What each tree but the first gains over that one, and whether it holds at other prices.
     gains: list[str] = field(default_factory=list)
 
@@ -184,10 +186,14 @@ def ask_all(program: Program, names: list[str], trace: str, workers: list[int], 
     return found
 
 
+def messages_of(plan: Answer) -> Answer:
+    """The lines of a plan that are of its messages."""
+    return Answer(plan.command, plan.text.partition("\nworkers,")[0])
+
+
 def part_of(plan: Answer, messages: int) -> int:
     """The tick up to which a picture goes that shows about so many messages: the start of the one behind them."""
-    lines = plan.text.partition("\nworkers,")[0].splitlines()[1:]
-    starts = sorted(int(line.split(",")[2]) for line in lines)
+    starts = sorted(int(line.split(",")[2]) for line in messages_of(plan).text.splitlines()[1:])
     length = int(plan.values()["length"])
     return max(1, starts[messages] if messages < len(starts) else length)
 

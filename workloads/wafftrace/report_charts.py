@@ -5,6 +5,7 @@ import io
 import re
 from collections.abc import Sequence
 from dataclasses import dataclass
+from itertools import pairwise
 from typing import Any
 
 from .report_answers import Ran, Row, Under
@@ -15,6 +16,11 @@ INK, QUIET, LINE, HEAT = "#ab0100", "#ab0101", "#ab0102", "#ab0103"
 NAMES = {0: "ink", 1: "quiet", 2: "line", 3: "heat"}
 FIRST_HUE = 16
 HUES = 8
+
+# So wide are the charts of a page, in inches: where a window has 400 pixels their letters are still to be read.
+NARROW = 4.2
+# So many letters of a legend are an inch wide.
+LETTERS = 15.3
 
 # So many affinities has a map of waits at most.
 MOST_IN_MAP = 24
@@ -42,7 +48,7 @@ class Stack:
 
 
 # What the parts of a stack are called.
-PARTS = ("data and clients", "tree", "order", "workers", "plan")
+PARTS = ("data, clients", "tree", "order", "workers", "plan")
 
 
 def stack_of(under: Under, workers: int) -> Stack:
@@ -81,10 +87,10 @@ def map_of(under: Under) -> tuple[list[str], dict[tuple[str, str], int], int]:
     return order, shown, sum(ticks.values()) - sum(shown.values())
 
 
-def allowed_of(under: Under) -> list[Row]:
-    """What each limit allows, from the data down to the plan for the greatest number of workers."""
+def bounds_of(under: Under) -> list[Row]:
+    """The line of each limit, from the clients down to the plan for the greatest number of workers."""
     rows = {row["limit"]: row for row in under.limits.rows() if row["workers"] in ("-", str(under.workers))}
-    return [rows[it] for it in ("clients", "after", "data", "work", "tree", "order", "plan") if it in rows]
+    return [rows[it] for it in ("clients", "after", "writes", "data", "work", "tree", "order", "plan") if it in rows]
 
 
 def least_of_any_tree(under: Under) -> int:
@@ -98,10 +104,32 @@ def number_of(value: str) -> float:
     return 0.0 if value == "-" else float(value)
 
 
-class Charts:
-    """Draws by matplotlib. Raises ImportError where there is none."""
+def shortened(text: str, most: int = 30) -> str:
+    """A name that is longer than a picture has room for, without its middle."""
+    half = (most - 1) // 2
+    return text if len(text) <= most else f"{text[:half]}\u2026{text[-half:]}"
 
-    def __init__(self) -> None:
+
+def columns_of(texts: list[str], room: float, most: int) -> int:
+    """So many columns, filled one after another as a legend is, have room for these texts, each behind its colour: the room is in letters."""
+    for columns in range(most, 1, -1):
+        size, more = divmod(len(texts), columns)
+        begins = [at * size + min(at, more) for at in range(columns + 1)]
+        if sum(max(map(len, texts[begin:end]), default=0) + 7 for begin, end in pairwise(begins)) <= room:
+            return columns
+    return 1
+
+
+def most_speed(under: Under, row: Row) -> float:
+    """The speed-up that no plan passes, of a line of `sweep`: all costs over the lower bound."""
+    return int(under.plan.values()["total"]) / max(1, int(row["least"]))
+
+
+class Charts:
+    """Draws by matplotlib, so many inches wide. Raises ImportError where there is none."""
+
+    def __init__(self, width: float = NARROW) -> None:
+        self.width = width
         matplotlib: Any = importlib.import_module("matplotlib")
         matplotlib.use("svg")
         matplotlib.rcParams.update({
@@ -117,8 +145,8 @@ class Charts:
         self.ticker: Any = importlib.import_module("matplotlib.ticker")
         self.patches: Any = importlib.import_module("matplotlib.patches")
 
-    def new(self, height: float, width: float = 5.4) -> tuple[Any, Any]:
-        figure, axes = self.pyplot.subplots(figsize=(width, height), layout="constrained")
+    def new(self, height: float) -> tuple[Any, Any]:
+        figure, axes = self.pyplot.subplots(figsize=(self.width, height), layout="constrained")
         return figure, axes
 
     def text(self, figure: Any, name: str) -> str:
@@ -138,75 +166,90 @@ class Charts:
     def thousands(self, axis: Any) -> None:
         axis.set_major_formatter(self.ticker.FuncFormatter(lambda it, _: f"{it:,.0f}"))
 
-    def allowed(self, trees: list[Under], name: str) -> str:
-        """Bars of speed-ups, from what the data allow down to the plan."""
-        rows = [allowed_of(under) for under in trees]
+    def bounds(self, trees: list[Under], name: str) -> str:
+        """Bars of lengths: how long each limit by itself makes a plan."""
+        rows = [bounds_of(under) for under in trees]
         bars = [row["limit"] if row["workers"] == "-" else f"{row['limit']}, {row['workers']}" for row in rows[0]]
         figure, axes = self.new(0.9 + 0.21 * len(bars) * (len(trees) + 0.6))
         step = 0.8 / len(trees)
-        values = [[max(0.01, number_of(row["speedup"])) for row in it] for it in rows]
-        every = [speed for speeds in values for speed in speeds]
-        least = min(1.0, *every)
-        for at, (under, speeds) in enumerate(zip(trees, values, strict=True)):
-            for line, speed in enumerate(speeds):
-                place = line - 0.4 + step * (at + 0.5)
-                (bar,) = axes.barh(place, speed - least, step * 0.9, left=least, color=hue(at), label=under.label if line == 0 else None)
-                bar.set_gid(f"mark-{at}-{line}")
-                axes.text(speed * 1.05, place, f"{speed:,.2f}", va="center", fontsize=8)
-        axes.set_xscale("log")
-        axes.set_xlim(least, max(every) * 2)
-        axes.xaxis.set_major_formatter(self.ticker.FuncFormatter(lambda it, _: f"{it:,.3g}"))
-        axes.xaxis.set_minor_formatter(self.ticker.NullFormatter())
-        axes.set_yticks(range(len(bars)), bars)
-        axes.invert_yaxis()
-        axes.set_xlabel("speed-up that it allows (the sum of all costs over the length)")
-        axes.grid(axis="x")
-        self.legend(axes, [(hue(at), under.label) for at, under in enumerate(trees)] if len(trees) > 1 else [])
+        most = max(int(row["length"]) for it in rows for row in it)
+        for at, lines in enumerate(rows):
+            for line, row in enumerate(lines):
+                self.bar(axes, line - 0.4 + step * (at + 0.5), [int(row["length"])], [hue(at)], step * 0.9, most, f"mark-{at}-{line}")
+        self.lengths(axes, bars, most)
+        axes.set_ylabel("limit")
+        self.legend(axes, [(hue(at), under.label) for at, under in enumerate(trees)] if len(trees) > 1 else [], self.room(bars))
         return self.text(figure, name)
 
-    def legend(self, axes: Any, entries: Sequence[tuple[str, str]], columns: int = 3) -> None:
-        """A legend above the picture."""
+    def bar(self, axes: Any, place: float, parts: list[int], hues: list[str], height: float, most: int, mark: str) -> None:
+        """A bar that begins at 0, of parts that follow each other, with their sum behind it. A part has the mark, with its number where they
+        are several."""
+        reached = 0
+        for number, (length, color) in enumerate(zip(parts, hues, strict=True)):
+            (bar,) = axes.barh(place, length, height, left=reached, color=color)
+            bar.set_gid(f"{mark}-{number}" if len(parts) > 1 else mark)
+            reached += length
+        axes.text(reached + most / 100, place, f"{reached:,}", va="center", fontsize=8)
+
+    def room(self, bars: Sequence[str] = ("123456",)) -> float:
+        """So many letters have room at the side of the names of bars, or of the figures of an axis."""
+        return self.width * LETTERS - 4 - max(map(len, bars))
+
+    def lengths(self, axes: Any, bars: list[str], most: int) -> None:
+        """The axes of bars of lengths, from the first one down."""
+        axes.set_xlim(0, max(1, most) * 1.18)
+        axes.set_yticks(range(len(bars)), bars)
+        axes.invert_yaxis()
+        axes.set_xlabel("ticks")
+        ticks = int(0.8 * self.room(bars)) // len(f"{most:,}  ")
+        axes.xaxis.set_major_locator(self.ticker.MaxNLocator(max(2, min(6, ticks)), integer=True))
+        self.thousands(axes.xaxis)
+        axes.grid(axis="x")
+
+    def legend(self, axes: Any, entries: Sequence[tuple[str, str]], room: float, most: int = 3) -> None:
+        """A legend above the picture, which is higher where the legend has many lines."""
         if entries:
             handles = [self.patches.Patch(color=color) for color, _ in entries]
-            told = [text if not text.startswith("_") else f"\u200b{text}" for _, text in entries]
+            # matplotlib leaves out what begins with an underscore.
+            told = [text if not text.startswith("_") else f"\u200b{text}" for text in (shortened(it) for _, it in entries)]
+            columns = columns_of(told, room, most)
+            figure = axes.figure
+            figure.set_figheight(figure.get_figheight() + 0.17 * max(0, -(-len(told) // columns) - 2))
             axes.legend(handles, told, loc="lower left", bbox_to_anchor=(0, 1), ncols=columns, handlelength=1, borderaxespad=0.3)
 
     def stacks(self, stacks: list[Stack], name: str) -> str:
         """Bars of lengths, each with the part that each limit adds."""
         figure, axes = self.new(1.0 + 0.27 * len(stacks))
-        most = max((it.length for it in stacks), default=1) or 1
+        most = max((it.length for it in stacks), default=0)
+        hues = [hue(part + 1) for part in range(len(PARTS))]
         for line, stack in enumerate(stacks):
-            left = 0
-            for part, length in enumerate(stack.parts):
-                (bar,) = axes.barh(line, length, 0.72, left=left, color=hue(part + 1))
-                bar.set_gid(f"mark-{line}-{part}")
-                left += length
-            axes.text(left + most / 100, line, f"{stack.length:,}", va="center", fontsize=8)
-        axes.set_xlim(0, most * 1.14)
-        axes.set_yticks(range(len(stacks)), [f"{it.label}, {it.workers}" for it in stacks])
-        axes.invert_yaxis()
-        axes.set_xlabel("ticks")
-        self.thousands(axes.xaxis)
-        axes.grid(axis="x")
-        self.legend(axes, [(hue(part + 1), text) for part, text in enumerate(PARTS)], 5)
+            self.bar(axes, line, stack.parts, hues, 0.72, most, f"mark-{line}")
+        bars = [f"{shortened(it.label, 16)}, {it.workers}" for it in stacks]
+        self.lengths(axes, bars, most)
+        axes.set_ylabel("tree, workers")
+        self.legend(axes, list(zip(hues, PARTS, strict=True)), self.room(bars), 5)
         return self.text(figure, name)
 
     def speeds(self, trees: list[Under], name: str) -> str:
         """Speed-up against workers, with the upper bound of all plans as a dashed line."""
         figure, axes = self.new(3.2)
         top, widest = 1.0, 1
+        ends: list[tuple[float, int, str]] = []
         for at, under in enumerate(trees):
             rows = sorted((row for row in under.sweep.rows() if row["workers"] != "-"), key=lambda row: int(row["workers"]))
             workers = [int(row["workers"]) for row in rows]
-            total = int(under.plan.values()["total"])
             speeds = [number_of(row["speedup"]) for row in rows]
-            ceilings = [total / max(1, int(row["least"])) for row in rows]
+            ceilings = [most_speed(under, row) for row in rows]
             (line,) = axes.plot(workers, speeds, color=hue(at), marker="o", markersize=4, linewidth=1.8)
             line.set_gid(f"mark-{at}")
-            (line,) = axes.plot(workers, ceilings, color=hue(at), linestyle=(0, (4, 3)), linewidth=1)
+            (line,) = axes.plot(workers, ceilings, color=hue(at), linestyle=(4 * at, (4, 4)), linewidth=1)
             line.set_gid(f"ceiling-{at}")
-            axes.annotate(rows[-1]["speedup"], (workers[-1], speeds[-1]), (5, 0), textcoords="offset points", va="center", fontsize=8)
+            ends.append((speeds[-1], workers[-1], rows[-1]["speedup"]))
             top, widest = max(top, *speeds, *ceilings), max(widest, *workers)
+        for number, (speed, workers_of, told) in enumerate(sorted(ends)):
+            # Of curves that end together one has its number here, and all in the table.
+            if number == 0 or speed - sorted(ends)[number - 1][0] > top / 20:
+                axes.annotate(told, (workers_of, speed), (5, 0), textcoords="offset points", va="center", fontsize=8)
         axes.plot([1, widest], [1, widest], color=QUIET, linewidth=0.8, linestyle=":")
         axes.set_ylim(0, top * 1.12)
         axes.set_xlim(left=min(1, widest))
@@ -215,15 +258,16 @@ class Charts:
         axes.set_xlabel("workers")
         axes.set_ylabel("speed-up")
         axes.grid()
-        self.legend(axes, [(hue(at), under.label) for at, under in enumerate(trees)])
+        self.legend(axes, [(hue(at), under.label) for at, under in enumerate(trees)], self.room())
         return self.text(figure, name)
 
     def waits(self, under: Under, name: str) -> str:
-        """A map: the row waits for the column, the darker the longer in all."""
+        """A map: the row waits for the column, the stronger the colour the longer in all."""
         order, ticks, _ = map_of(under)
-        side = max(1.3, 0.165 * len(order))
-        longest = max(map(len, order), default=1)
-        figure, axes = self.new(side + 0.075 * longest + 0.5, 5.4)
+        told = [shortened(it) if it != "-" else "a worker" for it in order]
+        names = 0.075 * max(map(len, told), default=1) + 0.5
+        side = min(max(1.3, 0.3 * len(order)), 2.4)
+        figure, axes = self.new(min(max(side, 0.165 * len(order)), self.width - names) + names)
         place = {affinity: at for at, affinity in enumerate(order)}
         most = max(ticks.values(), default=1) or 1
         for number, ((one, other), count) in enumerate(sorted(ticks.items())):
@@ -231,7 +275,6 @@ class Charts:
             cell = self.patches.Rectangle((place[other] - 0.5, place[one] - 0.5), 1, 1, facecolor=HEAT, alpha=depth, linewidth=0)
             cell.set_gid(f"mark-{number}")
             axes.add_patch(cell)
-        told = [it if it != "-" else "a worker" for it in order]
         axes.set_xlim(-0.5, len(order) - 0.5)
         axes.set_ylim(len(order) - 0.5, -0.5)
         axes.set_aspect("equal")
@@ -261,7 +304,7 @@ class Charts:
         axes.set_ylabel("ticks from issue to finish")
         self.thousands(axes.yaxis)
         axes.grid()
-        self.legend(axes, [(hue(at), it.rule) for at, it in enumerate(under.latencies)])
+        self.legend(axes, [(hue(at), it.rule) for at, it in enumerate(under.latencies)], self.room())
         return self.text(figure, name)
 
     def run(self, ran: Ran, name: str) -> str:
@@ -269,15 +312,8 @@ class Charts:
         figure, axes = self.new(1.5)
         lengths = [int(row["length"]) for row in run_rows(ran)]
         for line, length in enumerate(lengths):
-            (bar,) = axes.barh(line, length, 0.7, color=hue(line))
-            bar.set_gid(f"mark-{line}")
-            axes.text(length + max(lengths) / 100, line, f"{length:,}", va="center", fontsize=8)
-        axes.set_xlim(0, max(1, *lengths) * 1.14)
-        axes.set_yticks(range(len(lengths)), RUN_WORDS)
-        axes.invert_yaxis()
-        axes.set_xlabel("ticks")
-        self.thousands(axes.xaxis)
-        axes.grid(axis="x")
+            self.bar(axes, line, [length], [hue(line)], 0.7, max(lengths), f"mark-{line}")
+        self.lengths(axes, [it.replace(", ", ",\n") for it in RUN_WORDS], max(lengths))
         return self.text(figure, name)
 
 

@@ -7,13 +7,17 @@ import re
 from collections.abc import Iterable
 from string import Template
 
-from .report_answers import Answer, Ran, Report, Row, Under
+from .report_answers import Answer, Ran, Report, Row, Under, messages_of
 from .report_charts import (
-    PARTS, RUN_WORDS, Charts, Stack, allowed_of, least_of_any_tree, map_of, run_rows, stack_of, stacks_of,
+    PARTS, RUN_WORDS, Charts, Stack, bounds_of, least_of_any_tree, map_of, most_speed, run_rows, stack_of, stacks_of,
 )
 
 # So many rows of a table are shown, with a word on those left out.
 MOST_ROWS = 12
+# So many messages of a picture have a row.
+MOST_PICTURED = 1000
+# A table of more columns is wider than a narrow window.
+FEW_COLUMNS = 5
 
 LIGHT = {
     "ground": "#ffffff", "raised": "#f3f5f7", "ink": "#1b1f24", "quiet": "#57606a", "line": "#d4d9df", "heat": "#b02a1c",
@@ -58,26 +62,30 @@ def per_cent(part: int, whole: int) -> str:
 
 
 def table(rows: list[Row], columns: dict[str, str], name: str, caption: str = "", words: Iterable[str] = ()) -> str:
-    """Rows with these columns under these headings; columns of words stand to the left."""
+    """Rows with these columns under these headings; columns of words stand to the left. A row of many columns becomes lines of a heading and
+    a value where the window is narrow."""
     told = {column: ' class="word"' if column in words else "" for column in columns}
-    head = "".join(f"<th{told[column]}>{heading}</th>" for column, heading in columns.items())
-    lines = [f'<div class="table"><table id="{name}">', f"<caption>{caption}</caption>" if caption else ""]
+    head = "".join(f'<th scope="col"{told[column]}>{heading}</th>' for column, heading in columns.items())
+    many = ' class="many"' if len(columns) > FEW_COLUMNS else ""
+    lines = [f'<div class="table"><table id="{name}"{many}>', f"<caption>{caption}</caption>" if caption else ""]
     lines.append(f"<thead><tr>{head}</tr></thead><tbody>")
     for row in rows:
-        cells = "".join(
-            f"<td{told[column]}>{escaped(row[column]) if told[column] else escaped(figure_text(row[column]))}</td>" for column in columns
-        )
+        cells = ""
+        for column, heading in columns.items():
+            text = escaped(row[column] if told[column] else figure_text(row[column]))
+            cells += f"<td{told[column]}" + (f' data-of="{heading}"' if many else "") + f">{text}</td>"
         lines.append(f"<tr>{cells}</tr>")
     return "\n".join(filter(None, [*lines, "</tbody></table></div>"]))
+
+
+def folded(rows: list[Row], columns: dict[str, str], name: str, what: str, words: Iterable[str] = ()) -> str:
+    """A table that is not seen before it is asked for; none without rows."""
+    return f"<details><summary>{what}</summary>{table(rows, columns, name, '', words)}</details>" if rows else ""
 
 
 def made_by(*answers: Answer | str) -> str:
     lines = dict.fromkeys(it if isinstance(it, str) else it.command for it in answers)
     return "<pre>" + "\n".join(f"$ {escaped(it)}" for it in lines) + "</pre>"
-
-
-def figure(picture: str, caption: str) -> str:
-    return f'<figure><figcaption>{caption}</figcaption>{picture}</figure>' if picture else ""
 
 
 def of_workers(count: int | str) -> str:
@@ -128,6 +136,26 @@ def tree_costs(length: int, least: int) -> str:
     return f"of which the tree and the service order cost at most <b>{per_cent(length - least, length)}</b> (no tree has less than {least:,})"
 
 
+def blocks(*parts: str) -> str:
+    """Parts beside each other, where the window is wide enough."""
+    return f'<div class="blocks">{"".join(parts)}</div>' if any(parts) else ""
+
+
+def percentile_rows(under: Under) -> list[Row]:
+    """For each P from 1 to 100 the latency by each rule that P of 100 messages do not pass."""
+    found = [it.percentiles for it in under.latencies]
+    rules = [it.rule for it in under.latencies]
+    return [{"of": str(of), **dict(zip(rules, map(str, row), strict=True))} for of, row in enumerate(zip(*found, strict=True), start=1)]
+
+
+def pictured_rows(under: Under, span: tuple[int, int]) -> tuple[list[Row], str]:
+    """The messages of a plan that run in these ticks, in the order of their starts, and what these are called."""
+    rows = [row for row in messages_of(under.plan).rows() if int(row["start"]) < span[1] and int(row["finish"]) > span[0]]
+    rows.sort(key=lambda row: (int(row["start"]), int(row["message"])))
+    told = f"The first {MOST_PICTURED:,} of {len(rows):,} messages" if len(rows) > MOST_PICTURED else f"The {len(rows):,} messages"
+    return rows[:MOST_PICTURED], f"{told} of the picture"
+
+
 class Page:
     """The sections of a report. Without charts it has its tables alone."""
 
@@ -137,16 +165,20 @@ class Page:
         self.kept: dict[str, str] = {}
         self.sections: list[tuple[str, str, str]] = []
 
-    def chart(self, name: str, kind: str, *of: object) -> str:
-        """A chart, which stands in the page under this name."""
-        if self.charts is None:
-            return ""
-        text: str = getattr(self.charts, kind)(*of, name)
-        self.kept[name] = text
-        return text.replace("<svg ", f'<svg id="{name}" role="img" ', 1)
+    def chart(self, name: str, kind: str, of: object, caption: str, *tables: str) -> str:
+        """A chart, which stands in the page under this name, with the tables of its figures beside it; without charts these alone."""
+        figures = f'<div class="tables" id="figures-{name}">{"".join(tables)}</div>'
+        if self.charts is None or not of:
+            return f'<div class="beside">{figures}</div>'
+        self.kept[name] = getattr(self.charts, kind)(of, name)
+        tells = f'id="{name}" role="img" aria-labelledby="told-{name}" aria-details="figures-{name}"'
+        picture = self.kept[name].replace("<svg ", f"<svg {tells} ", 1)
+        return f'<div class="beside"><figure><figcaption id="told-{name}">{caption}</figcaption>{picture}</figure>{figures}</div>'
 
-    def section(self, name: str, heading: str, *parts: str) -> None:
-        self.sections.append((name, heading, "\n".join(filter(None, parts))))
+    def section(self, name: str, heading: str, told: str, *parts: str) -> None:
+        """A section, whose text stands before its charts and tables, or in a wide window at their side."""
+        shown = "\n".join(filter(None, parts))
+        self.sections.append((name, heading, f'<div class="told"><h2>{heading}</h2>{told}</div>\n<div class="shown">{shown}</div>'))
 
     def heading(self, under: Under) -> str:
         return f"<h3>{escaped(under.label)}</h3>" if len(self.report.trees) > 1 else ""
@@ -165,14 +197,14 @@ class Page:
             self.log(self.report.log)
         self.sure()
         body = [f'<section class="found">{self.found()}</section>', "" if self.charts else f'<p class="found warning">{NO_CHARTS}</p>']
-        body += [f'<section id="{name}">\n<h2>{heading}</h2>\n{text}\n</section>' for name, heading, text in self.sections]
+        body += [f'<section class="part" id="{name}">\n{text}\n</section>' for name, _, text in self.sections]
         report = self.report
         names = ", ".join(f"<code>{escaped(it.name)}</code>" for it in report.trees)
         about = f"The trace <code>{escaped(report.trace)}</code> under {names}, by waff {escaped(report.version)}. Times are in ticks of the trace."
         template = importlib.resources.files(__package__).joinpath("report.html").read_text(encoding="utf-8")
         return Template(template).substitute(
             title=escaped(report.title), version=escaped(report.version), colours=colours(),
-            paper=f":root{{color-scheme:light;{properties(LIGHT)}}}", about=about,
+            paper=f":root{{color-scheme:light;{properties(LIGHT)}}}", about=about, alone=' class="alone"' if len(report.trees) == 1 else "",
             contents=" ".join(f'<a href="#{name}">{heading}</a>' for name, heading, _ in self.sections),
             body="\n".join(filter(None, body)),
         )
@@ -182,7 +214,7 @@ class Page:
         lines = []
         for under in self.report.trees:
             row, stack = under.figures(), stack_of(under, under.workers)
-            rows = {it["limit"]: it for it in allowed_of(under)}
+            rows = {it["limit"]: it for it in bounds_of(under)}
             part = max(range(len(PARTS)), key=lambda it: stack.parts[it])
             length, least = int(row["length"]), least_of_any_tree(under)
             told = (
@@ -196,75 +228,78 @@ class Page:
             if rows["data"]["speedup"] != "-":
                 told += f" The data themselves allow {rows['data']['speedup']} times."
             lines.append(f"<p>{told}</p>")
-        return "\n".join([*(f'<p class="gain">{escaped(it)}</p>' for it in self.report.gains), *lines])
+        gains = [f'<p class="gain">{escaped(it)}</p>' for it in self.report.gains]
+        return "\n".join([*gains, '<div class="lists">', *lines, "</div>"])
 
     def limits(self) -> None:
         report, workers = self.report, max(self.report.workers)
         stacks = stacks_of(report.trees, report.workers)
-        charts = [
-            figure(self.chart("chart-allowed", "allowed", report.trees),
-                   f"The speed-up that each limit allows by itself, for {of_workers(workers)}; the last line is the plan. A step of the axis is"
-                   " ten times as much."),
-            figure(self.chart("chart-limits", "stacks", stacks),
-                   "What the length of the plan is made of, by tree and number of workers: what each limit adds to those before it."),
-        ]
+        columns = {"limit": "limit", "workers": "workers", "length": "length", "speedup": "speed-up", "at": "where"}
         tables = []
         for number, under in enumerate(report.trees):
-            columns = {"limit": "limit", "workers": "workers", "length": "length", "speedup": "speed-up", "at": "where"}
             found = table(under.limits.rows(), columns, f"table-limits-{number}", words=("limit", "at"))
             tables.append(f"<div>{self.heading(under)}{found}</div>")
         has_lists = any(row["limit"] == "after" for it in report.trees for row in it.limits.rows())
         after = " <b>after</b>: these, and what messages await of other clients, with the gaps behind it." if has_lists else ""
         self.section(
             "limits", "What limits it",
-            "<p>Each limit but the last two is a lower bound on the length (makespan) of plans in any order. <b>data</b>: the messages that touch"
-            f" one cell, under every tree. <b>clients</b>: a client's messages and think times.{after} <b>work</b>: all costs over the workers."
-            " <b>tree</b>: the messages at or above one affinity. <b>order</b>: the plan without a limit on workers, in the service order."
-            " <b>plan</b>: the plan for the workers.</p>",
-            f'<div class="charts">{"".join(charts)}</div>' if self.charts else "", f'<div class="charts">{"".join(tables)}</div>',
-            stack_table(stacks), made_by(*(it.limits for it in report.trees)),
+            f"<p>Each limit but the last two is a lower bound on the length (makespan) of plans in any order. <b>clients</b>: a client's"
+            f" messages and think times.{after} <b>writes</b>: the messages that write one cell, with the longest that only reads it."
+            " <b>data</b>: the messages that touch one cell, under every tree. <b>work</b>: all costs over the workers. <b>tree</b>: the"
+            " messages at or above one affinity. <b>order</b>: the plan without a limit on workers, in the service order. <b>plan</b>: the"
+            " plan for the workers.</p>",
+            blocks(
+                self.chart("chart-bounds", "bounds", report.trees,
+                           f"How long each limit by itself makes the plan for {of_workers(workers)}; the last line is the plan.", *tables),
+                self.chart("chart-limits", "stacks", stacks,
+                           "What the length of the plan is made of, by tree and number of workers: what each limit adds to those before it.",
+                           stack_table(stacks)),
+            ),
+            made_by(*(it.limits for it in report.trees)),
         )
 
     def speeds(self) -> None:
         trees = self.report.trees
-        chart = figure(
-            self.chart("chart-speeds", "speeds", trees),
-            "Speed-up against workers. No plan is above the dashed line of its colour (least). Dotted: twice as fast with twice the workers.",
-        )
-        columns = {"workers": "workers", "length": "length", "speedup": "speed-up", "busy": "busy", "least": "least", "over": "over",
-                   "waits": "waits", "mean": "mean", "p50": "p50", "p99": "p99", "latency": "greatest"}
+        columns = {"workers": "workers", "length": "length", "speedup": "speed-up", "most": "at most", "busy": "busy", "least": "least",
+                   "over": "over", "waits": "waits", "mean": "mean", "p50": "p50", "p99": "p99", "latency": "greatest"}
         tables = []
         for number, it in enumerate(trees):
-            tables += [self.heading(it), table(it.sweep.rows(), columns, f"table-sweep-{number}")]
+            rows = [{**row, "most": f"{most_speed(it, row):.2f}"} for row in it.sweep.rows()]
+            tables.append(f"<div>{self.heading(it)}{table(rows, columns, f'table-sweep-{number}')}</div>")
         self.section(
-            "speed", "Whether more workers help", chart,
-            *tables,
-            "<p class=\"quiet\">No plan for as many workers is shorter than <b>least</b> ticks, the lower bound; of a trace of version 1 or 2 none that serves in"
-            " the order of arrival. <b>over</b> is the length over least. mean, p50, p99 and greatest are latencies, from the issue of a"
-            " message to its finish. <b>-</b>: for any number of workers.</p>",
+            "speed", "Whether more workers help",
+            "<p>No plan for as many workers is shorter than <b>least</b> ticks, the lower bound, and no speed-up is above <b>at most</b>; of"
+            " a trace of version 1 or 2 none that serves in the order of arrival. <b>over</b> is the length over least. mean, p50, p99 and"
+            " greatest are latencies, from the issue of a message to its finish. <b>-</b>: for any number of workers.</p>",
+            self.chart("chart-speeds", "speeds", trees,
+                       "Speed-up against workers. No plan is above the dashed line of its colour (at most). Dotted: twice as fast with twice"
+                       " the workers.", *tables),
             made_by(*(it.sweep for it in trees)),
         )
 
     def waits(self) -> None:
         parts = []
         columns = {"affinity": "waits", "for": "for", "messages": "messages", "ticks": "ticks", "longest": "longest"}
+        words = ("affinity", "for")
         for number, under in enumerate(self.report.trees):
-            order, _, left = map_of(under)
-            rows = [{**row, "for": "a worker" if row["for"] == "-" else row["for"]} for row in under.waits.rows()]
+            order, shown, left = map_of(under)
+            lines = under.waits.rows()
+            more = [row for row in lines[MOST_ROWS:] if (row["affinity"], row["for"]) in shown]
+            rows, rest = ([{**row, "for": "a worker" if row["for"] == "-" else row["for"]} for row in it] for it in (lines[:MOST_ROWS], more))
             note = f" Waits of other affinities, {left:,} ticks in all, are left out." if left else ""
-            picture = self.chart(f"chart-waits-{number}", "waits", under) if order else ""
-            left_out = f"The longest waits, {MOST_ROWS} of {len(rows):,} pairs" if len(rows) > MOST_ROWS else "The longest waits first"
-            parts.append(
-                "<div>" + self.heading(under)
-                + figure(picture, f"Messages of the row's affinity wait for those of the column's, the darker the longer.{note}")
-                + table(rows[:MOST_ROWS], columns, f"table-waits-{number}", left_out, ("affinity", "for")) + "</div>"
+            left_out = f"The longest waits, {MOST_ROWS} of {len(lines):,} pairs" if len(lines) > MOST_ROWS else "The longest waits first"
+            drawn = self.chart(
+                f"chart-waits-{number}", "waits", under if order else None,
+                f"Messages of the row's affinity wait for those of the column's: the stronger the colour, the longer.{note}",
+                table(rows, columns, f"table-waits-{number}", left_out, words),
+                folded(rest, columns, f"table-waits-more-{number}", f"The other {len(rest):,} pairs of the picture", words),
             )
+            parts.append(f"<div>{self.heading(under)}{drawn}</div>")
         intro = (
-            f"<p>For {of_workers(max(self.report.workers))}. A dark cross is an affinity that stops those below it; a dark cell of the diagonal"
+            f"<p>For {of_workers(max(self.report.workers))}. A cross of strong colour is an affinity that stops those below it; such a cell of the diagonal"
             " one that is hot.</p>"
         )
-        commands = made_by(*(it.waits for it in self.report.trees))
-        self.section("waits", "Who waits for whom", intro, f'<div class="charts">{"".join(parts)}</div>', commands)
+        self.section("waits", "Who waits for whom", intro, blocks(*parts), made_by(*(it.waits for it in self.report.trees)))
 
     def latencies(self) -> None:
         parts, commands = [], []
@@ -275,23 +310,25 @@ class Page:
                 rows.append({"rule": it.rule, **next(row for row in it.figures.rows() if row["workers"] == str(under.workers))})
                 commands += [it.command, it.figures.command]
             is_drawn = any(it.percentiles for it in under.latencies)
-            picture = self.chart(f"chart-latencies-{number}", "latencies", under) if is_drawn else ""
-            parts.append(
-                "<div>" + self.heading(under) + figure(picture, "So many of 100 messages have at most this latency.")
-                + table(rows, columns, f"table-latencies-{number}", words=("rule",)) + "</div>"
+            drawn = self.chart(
+                f"chart-latencies-{number}", "latencies", under if is_drawn else None, "So many of 100 messages have at most this latency.",
+                table(rows, columns, f"table-latencies-{number}", words=("rule",)),
+                folded(percentile_rows(under), {"of": "of 100", **{it.rule: it.rule for it in under.latencies}},
+                       f"table-percentiles-{number}", "Each percentile"),
             )
+            parts.append(f"<div>{self.heading(under)}{drawn}</div>")
         intro = (
             f"<p>For {of_workers(max(self.report.workers))}. By <b>arrival</b> the ready message that came first starts first, by <b>longest</b>"
             " the one on which the longest chain of work hangs: mostly a shorter plan, and at times greater latencies.</p>"
         )
-        self.section("latencies", "Latencies", intro, f'<div class="charts">{"".join(parts)}</div>', made_by(*commands))
+        self.section("latencies", "Latencies", intro, blocks(*parts), made_by(*commands))
 
     def where(self) -> None:
         parts, commands = [], []
         figures = {"messages": "messages", "cost": "cost", "chain": "chain", "running": "running", "waits": "waits", "mean": "mean",
                    "p99": "p99", "latency": "greatest"}
         for number, under in enumerate(self.report.trees):
-            parts.append("<div>" + self.heading(under))
+            tables = []
             kinds = [("affinity", under.where), ("name", under.names), ("client", under.clients)]
             for kind, answer in kinds:
                 rows = sorted((row for row in answer.rows() if row["messages"] != "0"), key=lambda row: -int(row["cost"]))
@@ -300,14 +337,14 @@ class Page:
                 more = len(rows) - MOST_ROWS
                 cost = sum(int(row["cost"]) for row in rows[MOST_ROWS:])
                 caption = f"By {kind}, the most cost first" + (f"; {more:,} more with {cost:,} ticks in all" if more > 0 else "")
-                parts.append(table(rows[:MOST_ROWS], {kind: kind, **figures}, f"table-{kind}-{number}", caption, (kind,)))
+                tables.append(table(rows[:MOST_ROWS], {kind: kind, **figures}, f"table-{kind}-{number}", caption, (kind,)))
                 commands.append(answer)
-            parts.append("</div>")
+            parts.append(f'{self.heading(under)}<div class="tables">{"".join(tables)}</div>')
         intro = (
             f"<p>For {of_workers(max(self.report.workers))}. <b>chain</b>: the cost of those on the chain that makes the plan this long."
             " <b>running</b>: how many of them run at once in the mean. <b>waits</b>: the ticks from their issues to their starts.</p>"
         )
-        self.section("where", "Where the time goes", intro, f'<div class="charts wide">{"".join(parts)}</div>', made_by(*commands))
+        self.section("where", "Where the time goes", intro, *parts, made_by(*commands))
 
     def worst(self) -> None:
         parts = []
@@ -319,29 +356,36 @@ class Page:
                 for row in under.worst.rows()
             ]
             words = ("name", "affinity", "client", "waited")
-            parts += [self.heading(under), table(rows, columns, f"table-worst-{number}", words=words)]
+            parts.append(f"<div>{self.heading(under)}{table(rows, columns, f'table-worst-{number}', words=words)}</div>")
         intro = (
             f"<p>The messages of the greatest latency, for {of_workers(max(self.report.workers))}. From <b>ready</b> on a message waits for a"
             " worker alone.</p>"
         )
-        self.section("worst", "The worst messages", intro, *parts, made_by(*(it.worst for it in self.report.trees)))
+        made = made_by(*(it.worst for it in self.report.trees))
+        self.section("worst", "The worst messages", intro, f'<div class="tables">{"".join(parts)}</div>', made)
 
     def pictures(self) -> None:
         parts, commands = [], []
         for number, under in enumerate(self.report.trees):
             if under.picture is None:
                 continue
-            data = base64.b64encode(under.picture.text.encode()).decode()
             told = f"The plan under {escaped(under.label)} for {of_workers(under.workers)}"
+            data = base64.b64encode(under.picture.text.encode()).decode()
             image = f'<img id="picture-{number}" alt="{told}" src="data:image/svg+xml;base64,{data}">'
-            parts += [self.heading(under), f'<figure class="picture">{image}</figure>']
+            # Who has no pointer moves it by the keys with arrows.
+            panned = f'<div class="panned" tabindex="0" role="region" aria-label="{told}">{image}</div>'
+            rows, caption = pictured_rows(under, self.report.span)
+            columns = {it: it for it in ("message", "affinity", "start", "finish", "worker")}
+            figures = folded(rows, columns, f"table-picture-{number}", caption, ("affinity",))
+            parts.append(f"<div>{self.heading(under)}<figure>{panned}</figure>{figures}</div>")
             commands.append(under.picture)
         intro = (
             "<p>A lane is an affinity, and below these a worker. A bar is a message from its start to its finish. Orange is the chain: each"
             " of its bars waits for the one before, which makes the plan as long as it is."
-            + (" All pictures show the same ticks.</p>" if len(parts) > 2 else "</p>")
+            + (" All pictures show the same ticks.</p>" if len(parts) > 1 else "</p>")
+            + '<p class="narrow">In a narrow window the picture moves sideways.</p>'
         )
-        self.section("picture", "A part of the plan", intro, *parts, made_by(*commands))
+        self.section("picture", "A part of the plan", intro, blocks(*parts), made_by(*commands))
 
     def run(self, ran: Ran) -> None:
         rows = [{"what": what, **row} for what, row in zip(RUN_WORDS, run_rows(ran), strict=True)]
@@ -353,11 +397,11 @@ class Page:
         self.section(
             "run", "Predicted and measured",
             f"<p>For {of_workers(ran.workers)}, under {escaped(self.report.trees[0].label)}. The third line is planned of the costs that were"
-            " measured: what it is shorter than the run was spent between the messages.</p>",
-            figure(self.chart("chart-run", "run", ran), "The lengths of the plan, of the run, and of the plan for the measured costs."),
-            table(rows, columns, "table-run", words=("what",)),
+            " measured: what it is shorter than the run was spent between the messages.</p>"
             f"<p>The plan of the measured costs is <b>{share}</b> of the run. Above 0.95 the run was mostly of the messages themselves; far"
             f" below, of what ran them. The run, as <code>waff check</code> sees it: {escaped(verdict)}.</p>",
+            self.chart("chart-run", "run", ran, "The lengths of the plan, of the run, and of the plan for the measured costs.",
+                       table(rows, columns, "table-run", words=("what",))),
             made_by(ran.planned, ran.ran, ran.again),
         )
 
@@ -369,22 +413,24 @@ class Page:
         for line in lines:
             sorts[next((kind for kind, form in kinds.items() if re.match(form, line)), "rest")].append(line)
         warned = "</p><p>".join(map(escaped, sorts["warning"]))
-        parts = [f'<div class="found warning"><p>{warned}</p></div>'] if warned else []
+        warning = f'<div class="found warning"><p>{warned}</p></div>' if warned else ""
+        parts = []
         for kind, heading in (("kept", "Kept"), ("left", "Left out"), ("rest", "Said besides")):
             if sorts[kind]:
                 told = [it.replace("left out: ", "", 1) for it in sorts[kind]]
-                parts.append(f"<h3>{heading}</h3><ul id=\"log-{kind}\">{''.join(f'<li>{escaped(it)}</li>' for it in told)}</ul>")
+                parts.append(f"<div><h3>{heading}</h3><ul id=\"log-{kind}\">{''.join(f'<li>{escaped(it)}</li>' for it in told)}</ul></div>")
         empty = "" if lines else "<p>The import said nothing.</p>"
         source = f'<p class="quiet">From <code>{escaped(self.report.log_name)}</code>.</p>'
-        self.section("log", "What the import left out", *parts, empty, source)
+        self.section("log", "What the import left out", source, warning, f'<div class="lists">{"".join(parts)}</div>', empty)
 
     def sure(self) -> None:
         self.section(
-            "sure", "How sure the numbers are",
+            "sure", "How sure the numbers are", "",
             "<p>The numbers are those of the program <code>waff</code>, and each section ends with the commands that print them. That they"
             " are right is proved, for the model: messages with fixed costs, a tree of affinities, workers that are all alike. They measure"
             " no system: on a machine costs change with what else runs, and caches, locks and devices are not in the trace. The charts,"
-            " what a limit adds to those before it, and the page itself are made by a script, which is tested and not proved.</p>",
+            " what a limit adds to those before it, the greatest speed-ups, the percentiles and the page itself are made by a script, which"
+            " is tested and not proved.</p>",
             made_by(self.report.made),
         )
 

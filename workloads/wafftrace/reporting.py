@@ -64,9 +64,8 @@ def tick_of(word: str) -> int:
     return number(0, 10**15, "tick")(word)
 
 
-def pictured(program: Program, trees: list[Under], trace: str, begin: int, end: int | None) -> list[Under]:
-    """The trees with the same part of their plans drawn: that of about so many messages under the first one."""
-    to = end if end is not None else max(begin + 1, part_of(trees[0].plan, PICTURED))
+def pictured(program: Program, trees: list[Under], trace: str, begin: int, to: int) -> list[Under]:
+    """The trees with the same part of their plans drawn."""
     found = []
     for it in trees:
         files = [file_word(it.name), file_word(trace), "-"]
@@ -103,9 +102,11 @@ def report(asked: Namespace) -> str:
     log = read_text(asked.log) if asked.log else None
     program = Program(os.path.abspath(asked.program) if os.sep in asked.program else asked.program)
     trees = ask_all(program, names, asked.trace, asked.workers, asked.rule, asked.worst)
-    trees = pictured(program, trees, asked.trace, asked.begin, asked.end)
+    # About so many messages under the first tree.
+    to = asked.end if asked.end is not None else max(asked.begin + 1, part_of(trees[0].plan, PICTURED))
+    trees = pictured(program, trees, asked.trace, asked.begin, to)
     title = asked.title or f"{os.path.basename(asked.trace)} under {', '.join(labels(names))}"
-    told = Report(title, asked.trace, asked.workers, asked.rule, trees, VERSION, log=log, log_name=asked.log or "")
+    told = Report(title, asked.trace, asked.workers, asked.rule, trees, VERSION, log=log, log_name=asked.log or "", span=(asked.begin, to))
     told.made = command_of(asked, names)
     if asked.pricings == "ten":
         told.gains = gains_of(asked, names)
