@@ -43,6 +43,8 @@ WORDS = (
     "sweep {H} {T} --workers 2,1",
     "limits {H} {T}",
     "limits {H} {T} --workers 2,1 --rule longest",
+    "locks {H} {T}",
+    "locks {H} {T} --workers 2 --shared --steps 2",
     "rate {H} {T} {P}",
     "rate {H} {T} {F}",
     "waits {H} {T}",

@@ -11,7 +11,7 @@ Place = tuple[str, str]
 
 # A comment begins at the first `#` outside of strings.
 COMMENT = re.compile(r"""((?:[^#"']|"(?:[^"\\]|\\.)*"|'[^']*')*)(#.*)?""")
-TABLE = re.compile(r"\s*(?:\[\[\s*(affinity|space|map)\s*\]\]|(affinity|space|map)\s*=\s*\[|(model)\s*=|(format)\s*=\s*\+?2\s*$)")
+TABLE = re.compile(r"\s*(?:\[\[\s*(affinity|space|map)\s*\]\]|(affinity|space|map)\s*=\s*\[|(model)\s*=|(format)\s*=\s*\+?[23]\s*$)")
 ENTRY = {"affinity": "name", "space": "name", "map": "space"}
 
 
@@ -64,25 +64,28 @@ class Tree:
     sizes: dict[str, int]
     maps: dict[str, tuple[int, list[str]]]
     comments: Comments = field(default_factory=Comments)
-    # Whether it is of format 2, for large spaces.
+    # Whether it is of format 2 or 3, for large spaces.
     is_large: bool = False
+    # The kind of locks that the cells of a space have: `exclusive` or `shared`, of spaces with locks alone. A hierarchy with such a space is of format 3.
+    locks: dict[str, str] = field(default_factory=dict)
     ways: dict[str, list[str]] = field(default_factory=dict)
 
     def changed(self, parents: dict[str, str | None], maps: dict[str, tuple[int, list[str]]]) -> "Tree":
         """The tree with other affinities and maps, and its comments."""
-        return Tree(self.model, parents, self.sizes, maps, self.comments, self.is_large)
+        return Tree(self.model, parents, self.sizes, maps, self.comments, self.is_large, self.locks)
 
     def text(self) -> str:
         """The file, with the comments of what it has."""
         told = self.comments.lines
         lines = told(("model", ""), f'model = "{self.model}"')
-        lines += told(("format", ""), "format = 2") if self.is_large else []
+        lines += told(("format", ""), f"format = {3 if self.locks else 2}") if self.is_large else []
         lines += ["", *told(("affinity", ""), "affinity = [")]
         for name, parent in self.parents.items():
             lines += told(("affinity", name), f'    {{ name = "{name}"' + (f', parent = "{parent}"' if parent else "") + " },")
         lines += ["]", "", *told(("space", ""), "space = [")]
         for space, size in self.sizes.items():
-            lines += told(("space", space), f'    {{ name = "{space}", size = {size} }},')
+            locks = f', locks = "{self.locks[space]}"' if space in self.locks else ""
+            lines += told(("space", space), f'    {{ name = "{space}", size = {size}{locks} }},')
         lines += ["]", "", *told(("map", ""), "map = [")]
         for space, (unit, owners) in self.maps.items():
             names = ", ".join(f'"{name}"' for name in owners)
@@ -128,9 +131,17 @@ def read_tree(name: str) -> Tree:
         table = tomllib.loads(text)
         parents = {it["name"]: it.get("parent") for it in table["affinity"]}
         sizes = {it["name"]: it["size"] for it in table["space"]}
-        maps = {it["space"]: (it["unit"], it["to"]) for it in table["map"]}
-        if [len(parents), len(sizes), len(maps)] != [len(table[it]) for it in ("affinity", "space", "map")]:
+        # No text, and no 2.0.
+        form = table.get("format") if type(table.get("format")) is int else 1
+        rows = table.get("map", []) if form == 3 else table["map"]
+        locks = {it["name"]: it["locks"] for it in table["space"] if "locks" in it} if form == 3 else {}
+        if not all(it in ("exclusive", "shared") for it in locks.values()):
+            raise ValueError("locks that are neither exclusive nor shared")
+        maps = {it["space"]: (it["unit"], it["to"]) for it in rows}
+        if [len(parents), len(sizes), len(maps)] != [len(it) for it in (table["affinity"], table["space"], rows)]:
             raise ValueError("a name that is there twice")
+        # A space with locks may stand without a map.
+        maps |= {it: (1, [next(iter(parents))]) for it in locks if it not in maps}
         if not all(type(it) is int for it in [*sizes.values(), *(unit for unit, _ in maps.values())]):
             raise ValueError("a size or a unit that is no whole number")
         if not all(type(it) is str for it in [table["model"], *parents, *sizes]) or not all(type(to) is list for _, to in maps.values()):
@@ -144,8 +155,6 @@ def read_tree(name: str) -> Tree:
             if parent not in before and (parent is not None or before):
                 raise ValueError("a parent that does not stand before its child")
             before.add(affinity)
-        # No text, and no 2.0.
-        is_large = type(table.get("format")) is int and table["format"] == 2
-        return Tree(table["model"], parents, sizes, maps, Comments.of(text), is_large)
+        return Tree(table["model"], parents, sizes, maps, Comments.of(text), form in (2, 3), locks)
     except (tomllib.TOMLDecodeError, UnicodeError, KeyError, TypeError, ValueError, AttributeError) as fault:
         raise Refusal(3, f"{shown(name)}: no hierarchy, `waff explain` tells why ({fault})") from None

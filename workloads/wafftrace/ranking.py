@@ -134,16 +134,17 @@ class Ranker:
         """The words of a call that ranks the trees of these files."""
         return ["rank", "--workers", str(workers), "--rule", self.asked.rule, "--", os.path.abspath(trace.name), *names]
 
-    def floors(self, tree: str) -> list[int]:
+    def floors(self, tree: str, data: str = "data") -> list[int]:
         """The least length that any tree allows, for each trace and number of workers: the greatest of what `waff limits` tells of the
-        workers, the clients, the lists of what messages wait for, and the data."""
+        workers, the clients, the lists of what messages wait for, and the data; with `writes` in place of these that which any tree with any
+        locks allows."""
         workers = ",".join(map(str, self.asked.workers))
         jobs = [["limits", "--workers", workers, "--", os.path.abspath(tree), os.path.abspath(it.name)] for it in self.traces]
         found: list[int] = []
         for text in answers(self.asked, jobs, self.until):
             rows = {(row["limit"], row["workers"]): int(row["length"]) for row in csv.DictReader(text.splitlines())}
             try:
-                of_all = max(rows["clients", "-"], rows.get(("after", "-"), 0), rows["data", "-"])
+                of_all = max(rows["clients", "-"], rows.get(("after", "-"), 0), rows[data, "-"])
                 found += [max(of_all, rows["work", str(it)]) for it in self.asked.workers]
             except KeyError as fault:
                 raise Refusal(3, f"`waff limits` told nothing of {fault}") from None

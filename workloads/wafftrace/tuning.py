@@ -388,6 +388,7 @@ def searched(asked: Namespace, tree: Tree, spaces: list[str], sources: list[Sour
     tell_calm(first, sources)
     tell(f"searching for the least {deciding(asked, by)}")
     floors = whole.floors(asked.hier) if by == "length" else []
+    locked = whole.floors(asked.hier, "writes") if by == "length" else []
     with tempfile.TemporaryDirectory(dir=asked.folder) as folder:
         windows = [it for source in sources for it in sampled(source, asked.sample, folder)]
         made = search_of(asked, tree, spaces, Ranker(asked, windows, known=whole.known if windows == sources else {}), by)
@@ -406,7 +407,7 @@ def searched(asked: Namespace, tree: Tree, spaces: list[str], sources: list[Sour
     tell(f"{many(made.ranker.count, 'tree was', 'trees were')} planned")
     tell_held(asked, tree, best.tree, order(by, asked.over))
     told_best = f"the best by {deciding(asked, by)} is {tree_found(asked, made, best, first, by)}"
-    tell(f"{told_best}{written(asked)}{floor(asked, best.row, floors)}")
+    tell(f"{told_best}{written(asked)}{floor(asked, best.row, floors, locked)}")
     if asked.curve:
         return curve_text(asked, curve, floors)
     lines = [columns(["change"], asked.workers, len(sources)), *(f"{it.what},{cells(it.row)}" for it in steps)]
@@ -481,12 +482,14 @@ def many(count: int, one: str, several: str) -> str:
     return f"{count} {one if count == 1 else several}"
 
 
-def floor(asked: Namespace, row: Row, floors: list[int]) -> str:
-    """What no tree passes, beside a tree whose plans have these figures."""
+def floor(asked: Namespace, row: Row, floors: list[int], locked: list[int]) -> str:
+    """What is less under no tree, and where readers would gain by locks that they share under none with any locks, beside a tree whose plans
+    have these figures."""
     if not floors:
         return ""
-    least, length = total(asked, floors), total(asked, [it.length for it in row])
-    return "; no tree has less" + (f" than {least}" if least < length else "")
+    least, below, length = total(asked, floors), total(asked, locked), total(asked, [it.length for it in row])
+    told = "; no tree has less" + (f" than {least}" if least < length else "")
+    return told + (f", none with shared locks less than {below}" if below < least else "")
 
 
 def curve_text(asked: Namespace, curve: list[tuple[int, Found | None]], floors: list[int]) -> str:

@@ -15,14 +15,15 @@ use Rattle.waff_list.specs.declared.rule.Rule.{Rule}
 use Rattle.waff_list.specs.declared.rule.Rule.TheVariants.{Arrival, Longest}
 use Rattle.waff_list.proofs.RuleLemmas.{busy_by_rule}
 use Rattle.waff_list.proofs.TraceWork.{count_is}
+use Rattle.waff_assign.specs.Held.{Held}
 
 -- a plan of the messages has as many of them as have affinities
-pub as_many : (messages : List Message) (timings : List Timing) (assigned : List ℕ) → timings ≡ timings_of messages
+pub as_many : (messages : List Message) (timings : List Timing) (assigned : List Held) → timings ≡ timings_of messages
     → length assigned ≡ length messages → length timings ≡ length assigned
 as_many messages timings assigned are same = ap length are ∙ count_is messages ∙ sym same
 
 -- a list plan obeys
-pub plan_obeys : (version : Version) (rule : Rule) (tree : List Node) (assigned : List ℕ) (work : Work) (k : ℕ) (start : ℕ → ℕ)
+pub plan_obeys : (version : Version) (rule : Rule) (tree : List Node) (assigned : List Held) (work : Work) (k : ℕ) (start : ℕ → ℕ)
     → IsPlanServed version rule tree assigned work k start → Obeys (served_before version tree assigned work start) work start
 plan_obeys V1 rule tree assigned work k start plan = (busy_by_rule rule (IsOrdered tree assigned) work k start plan).within.obeys
 plan_obeys V2 rule tree assigned work k start plan = (busy_by_rule rule (IsOrdered tree assigned) work k start plan).within.obeys

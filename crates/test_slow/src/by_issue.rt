@@ -1,13 +1,14 @@
 //! Plans of clients' messages by the definition: from one tick at which something happens to the
 //! next, at each of which it is found anew what is issued and what is ready; their chains and tails.
 
-ghost use Rattle.std.specs.Prelude.{◌≡◌, ◌<◌, length, All};
+ghost use Rattle.std.specs.Prelude.{◌≡◌, length};
+ghost use Rattle.waff_assign.specs.Held.{AreKnown};
 
 use crate::lists::{Started, finished, free, free_worker};
 use crate::pairs::{has, only};
 use crate::traces::MESSAGES;
 use std::alloc::{AllocError, Global};
-use waff_assign::Assigned;
+use waff_assign::{Assigned, exclude_each_other};
 use waff_model::{Trace, Tree};
 
 /// A message: its ticks, the one before it of its client (0 where there is none), and the set of all
@@ -29,14 +30,14 @@ pub fn requests(
     trace: &Trace,
 ) -> Result<Vec<Request>, AllocError>
     requires lengths { length assigned.now ≡ length trace.now.messages }
-    requires known { All (λ a. a < length tree.now) assigned.now }
+    requires known { AreKnown tree.now assigned.now }
 {
     let mut all = Vec::new(alloc);
     for m in 1..trace.len() + 1 {
         let message = trace.message(m);
         let mut others = 0;
         for i in 1..assigned.len() + 1 {
-            if i != m && tree.excludes(assigned.of(i), assigned.of(m)) {
+            if i != m && exclude_each_other(tree, assigned, i, m) {
                 others |= only(i);
             }
         }

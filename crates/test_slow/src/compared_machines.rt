@@ -77,7 +77,8 @@ fn refusal(place: usize, fault: Fault) -> CoreError {
 
 /// The job of the trace in this order.
 fn job(rt: &impl Abort, alloc: Global, hierarchy: &str, trace: &str, order: &[u32]) -> Job {
-    let layout = read_hierarchy(alloc, hierarchy.as_bytes()).expect(rt, "a hierarchy");
+    let read = read_hierarchy(alloc, hierarchy.as_bytes()).expect(rt, "a hierarchy");
+    let layout = read.without_locks();
     let trace = read_trace(alloc, &layout, trace.as_bytes()).expect(rt, "a trace");
     let assigned = assign(alloc, &layout, &trace).expect(rt, "affinities");
     let needs = needs(alloc, layout.tree(), &assigned).expect(rt, "needs");

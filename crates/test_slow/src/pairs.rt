@@ -1,10 +1,11 @@
 //! Pairs of messages: for each message, from 1, a set of earlier ones. A set is a word with a bit
 //! for each message.
 
-ghost use Rattle.std.specs.Prelude.{◌<◌, ◌≤◌, length, All};
+ghost use Rattle.std.specs.Prelude.{◌<◌, ◌≤◌, length};
+ghost use Rattle.waff_assign.specs.Held.{AreKnown};
 
 use std::alloc::{AllocError, Global};
-use waff_assign::Assigned;
+use waff_assign::{Assigned, exclude_each_other};
 use waff_model::{AffinityId, Tree};
 use waff_order::Needs;
 
@@ -18,9 +19,9 @@ pub fn has(set: u64, m: u32) -> bool {
     set & only(m) != 0
 }
 
-/// The ordered pairs: all earlier messages whose affinities exclude that of the message.
+/// The ordered pairs: all earlier messages that exclude the message.
 pub fn ordered(alloc: Global, tree: &Tree, assigned: &Assigned) -> Result<Vec<u64>, AllocError>
-    requires { All (λ a. a < length tree.now) assigned.now }
+    requires { AreKnown tree.now assigned.now }
 {
     let mut pairs = Vec::new(alloc);
     for m in 1..assigned.len() + 1 {
@@ -32,11 +33,11 @@ pub fn ordered(alloc: Global, tree: &Tree, assigned: &Assigned) -> Result<Vec<u6
 fn excluding(tree: &Tree, assigned: &Assigned, m: u32) -> u64
     requires from { 1 ≤ m }
     requires to { m ≤ length assigned.now }
-    requires known { All (λ a. a < length tree.now) assigned.now }
+    requires known { AreKnown tree.now assigned.now }
 {
     let mut set = 0;
     for i in 1..m {
-        if tree.excludes(assigned.of(i), assigned.of(m)) {
+        if exclude_each_other(tree, assigned, i, m) {
             set |= only(i);
         }
     }

@@ -18,7 +18,8 @@ pub fn job(
     trace: &str,
     order: &[u32],
 ) -> Result<Job, JobError> {
-    let layout = read_hierarchy(alloc, hierarchy.as_bytes()).expect(rt, "a hierarchy");
+    let read = read_hierarchy(alloc, hierarchy.as_bytes()).expect(rt, "a hierarchy");
+    let layout = read.without_locks();
     let trace = read_trace(alloc, &layout, trace.as_bytes()).expect(rt, "a trace");
     let assigned = assign(alloc, &layout, &trace).expect(rt, "affinities");
     let needs = needs(alloc, layout.tree(), &assigned).expect(rt, "needs");

@@ -8,8 +8,8 @@ use std::alloc::{AllocError, Global};
 use std::process::Abort;
 use waff_model::limits::{MAX_ALL_OPS, MAX_COST, MAX_OPS, MAX_RELEASE};
 use waff_model::{
-    AffinityId, Awaits, Cell, Client, Format, Kind, Layout, LayoutError, MapSpec, Message, Op, Ops,
-    SpaceSpec, Text, Texts, Trace, Tree, TreeBuilder, TreeError, Version, is_name,
+    AffinityId, Awaits, Cell, Client, Format, Kind, Layout, LayoutError, Locking, MapSpec, Message,
+    Op, Ops, SpaceSpec, Text, Texts, Trace, Tree, TreeBuilder, TreeError, Version, is_name,
 };
 
 /// The name of a space, how many cells in a row go to one affinity, and the affinities that take
@@ -39,7 +39,11 @@ fn spaces_to_be(alloc: Global, rows: &[(&str, i64)]) -> Result<Vec<SpaceSpec>, A
     let mut spaces = Vec::new(alloc);
     for (name, size) in rows {
         let name = Text::of(alloc, name)?;
-        spaces.push(SpaceSpec { name, size: *size })?;
+        spaces.push(SpaceSpec {
+            name,
+            size: *size,
+            locks: Locking::Unlocked,
+        })?;
     }
     Ok(spaces)
 }

@@ -209,8 +209,15 @@ const FORMATS: &[(&str, &str, &str, &str)] = &[
         "size = 262135",
         "Some(Layout(TooManyCells))",
     ),
+    ("format = 3", "size = 8", "size = 4294967295", "None"),
     (
         "format = 3",
+        "size = 8",
+        "size = 4294967296",
+        "Some(Layout(Size))",
+    ),
+    (
+        "format = 4",
         "size = 8",
         "size = 262145",
         "Some(Layout(Size))",

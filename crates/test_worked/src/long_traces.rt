@@ -49,7 +49,7 @@ fn have_their_messages_in_order(rt: HostRuntime) {
 /// Message `n` has to be assigned the owner of its cell: `A0` and `A1` take turns, two cells each.
 fn is_assigned(rt: &impl Abort, tree: &Tree, assigned: &Assigned, n: u32) {
     assert!(rt; 1 <= n && n <= assigned.len(), "{n}");
-    let affinity = assigned.of(n);
+    let affinity = assigned.affinity(n).expect(rt, "an affinity");
     assert!(rt; u32::from(affinity.0) < tree.len(), "{n}");
     let wanted = if n % 4 < 2 { "A0" } else { "A1" };
     assert!(rt; tree.name(affinity) == wanted, "{n}");

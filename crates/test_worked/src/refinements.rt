@@ -15,6 +15,7 @@ fn first_refines(rt: &impl Abort, alloc: Global, first: &str, second: &str) -> b
     assert!(rt; trace.fits(&second));
     let fine = assign(alloc, &first, &trace).expect(rt, "affinities");
     let coarse = assign(alloc, &second, &trace).expect(rt, "affinities");
+    assert!(rt; fine.is_unlocked() && coarse.is_unlocked());
     let answer = refines(first.tree(), &fine, second.tree(), &coarse);
     drop(fine);
     drop(coarse);

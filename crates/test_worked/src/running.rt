@@ -55,7 +55,7 @@ fn push_affinities(
 ) -> Result<(), AllocError> {
     told.push_str("affinities")?;
     for n in 1..assigned.len() + 1 {
-        let affinity = assigned.of(n);
+        let affinity = assigned.affinity(n).expect(rt, "an affinity");
         assert!(rt; u32::from(affinity.0) < tree.len());
         write!(told, " {}", tree.name(affinity))?;
     }

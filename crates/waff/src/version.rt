@@ -7,4 +7,4 @@ pub const VERSION: &str = "0.1.0";
 pub const LONG_VERSION: &str = "\
 0.1.0
 logic: dac8208d650f15bf
-sources: 650f213380087b83";
+sources: 7137808ff354a689";

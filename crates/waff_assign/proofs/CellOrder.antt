@@ -1,5 +1,5 @@
 -- Cells are in a total order, in which only equal cells tie.
-use Rattle.std.proofs.Common.{◌≡◌, ℕ, Bool, true, ◌&&◌, arith, ap₂}
+use Rattle.std.proofs.Common.{◌≡◌, ℕ, true, arith, ap₂}
 use Rattle.std.specs.Prelude.{◌==◌}
 use Rattle.std.specs.Cmp.{IsTotalOrder, IsEquivalence}
 use Rattle.std.specs.Ordering.{eq_by_cmp}
@@ -8,10 +8,7 @@ use Rattle.std.proofs.lemmas.Bool.Decides.{nat_tests}
 use Rattle.std.proofs.lemmas.Cmp.{nat_cmp_total, nat_eq_equiv, on_total, then_total, on_equiv, and_equiv}
 use Rattle.waff_model.specs.declared.cell.Cell.{Cell}
 use Rattle.waff_assign.specs.Footprint.{cell_cmp}
-
--- the test of equal cells
-abbrev pub cell_eq : Cell → Cell → Bool
-cell_eq one other = (one.space == other.space) && (one.index == other.index)
+pub use Rattle.waff_assign.specs.Footprint.{cell_eq}
 
 pub cell_cmp_total : IsTotalOrder cell_cmp
 cell_cmp_total = then_total (on_total (λ (cell : Cell). cell.space) nat_cmp_total) (on_total (λ (cell : Cell). cell.index) nat_cmp_total)

@@ -1,6 +1,9 @@
+pub mod Held
 pub mod Order
 pub mod Lowest
 pub mod Footprint
 pub mod Unique
 pub mod Instance
 pub mod Case
+pub mod Uses
+pub mod MoreLocks

@@ -1,27 +1,63 @@
--- The order that a trace's messages keep: earlier before later, where their affinities exclude each
--- other.
-use Rattle.std.specs.Prelude.{ℕ, zero, suc, ◌-◌, ◌<◌, ◌≤◌, List, length, map, slice_index}
-use Rattle.waff_model.specs.Tree.{Node, Excludes, name_of}
+-- The order that a trace's messages keep: earlier before later, where they exclude each other.
+use Rattle.std.specs.Prelude.{◌≡◌, ℕ, zero, suc, ◌-◌, ◌<◌, ◌≤◌, List, [], ◌∷◌, length, map, Option, None, slice_index}
+use Rattle.std.specs.Prelude.{option_map, slice_index_or, slice_range, unwrap_or}
+use Rattle.std.specs.List.{range_with_len}
+use Rattle.waff_model.specs.Tree.{Node, name_of}
 use Rattle.waff_model.specs.declared.tree.AffinityId.{AffinityId}
+use Rattle.waff_assign.specs.Held.{ExcludeEachOther, Held, nothing}
+use Rattle.waff_assign.specs.declared.held.LockUse.{LockUse}
 
--- the numbers of affinities
-abbrev pub numbers_of : List AffinityId → List ℕ
-numbers_of affinities = map (λ a. a.0) affinities
+-- what message n holds, where `assigned` lists what the messages hold in the order of arrival
+abbrev pub held_of : List Held → ℕ → Held
+held_of assigned n = slice_index_or assigned (n - 1) nothing
 
--- the affinity of message n, where `assigned` lists the affinities in the order of arrival
-abbrev pub affinity_of : List ℕ → ℕ → ℕ
-affinity_of assigned n = slice_index assigned (n - 1)
+-- its affinity
+abbrev pub affinity_of : List Held → ℕ → Option ℕ
+affinity_of assigned n = (held_of assigned n).affinity
 
--- its name
-abbrev pub affinity_name : List Node → List ℕ → ℕ → List ℕ
-affinity_name tree assigned n = name_of tree (affinity_of assigned n)
+-- its number, and this one where it has none
+abbrev pub number_or : ℕ → Held → ℕ
+number_or none held = unwrap_or held.affinity none
 
--- an ordered pair: message i arrived before message j, and their affinities exclude each other
-pub record IsOrdered (tree : List Node) (assigned : List ℕ) (i j : ℕ) : Type 0 where
+-- the name of an affinity, and a hyphen where there is none
+abbrev pub name_or_hyphen : List Node → Option ℕ → List ℕ
+name_or_hyphen tree affinity = unwrap_or (option_map (name_of tree) affinity) (45 ∷ [])
+
+-- that of message n
+abbrev pub affinity_name : List Node → List Held → ℕ → List ℕ
+affinity_name tree assigned n = name_or_hyphen tree (affinity_of assigned n)
+
+-- where the uses of locks by the message at this place, from 0, start among all uses: where those before it end
+abbrev pub start_at : List ℕ → ℕ → ℕ
+start_at ends zero = 0
+start_at ends (suc k) = slice_index ends k
+
+-- its uses: a run of all uses, up to its end; none where no ends are listed
+abbrev pub uses_at : List LockUse → List ℕ → ℕ → List LockUse
+uses_at uses ends k = slice_range uses (start_at ends k) (slice_index ends k)
+
+-- the ends cut all uses into a run for each of so many messages; where none are listed, there is no use
+pub record AreEnds (count : ℕ) (uses : List LockUse) (ends : List ℕ) : Type 0 where
+  pub none : length ends ≡ 0 → length uses ≡ 0
+  pub each : 0 < length ends → length ends ≡ count
+  pub rising : (k : ℕ) → k < length ends → start_at ends k ≤ slice_index ends k
+  pub within : (k : ℕ) → k < length ends → slice_index ends k ≤ length uses
+  pub last : start_at ends (length ends) ≡ length uses
+
+-- what messages hold, from lists of their affinities, of all uses of locks and of their ends
+abbrev pub helds_of : List (Option AffinityId) → List LockUse → List ℕ → List Held
+helds_of affinities uses ends =
+    map (λ k. record {
+      affinity = option_map (λ a. a.0) (slice_index_or affinities k None);
+      uses = uses_at uses ends k;
+    }) (range_with_len 0 (length affinities))
+
+-- an ordered pair: message i arrived before message j, and they exclude each other
+pub record IsOrdered (tree : List Node) (assigned : List Held) (i j : ℕ) : Type 0 where
   pub from : 1 ≤ i
   pub earlier : i < j
   pub to : j ≤ length assigned
-  pub excludes : Excludes tree (affinity_of assigned i) (affinity_of assigned j)
+  pub excludes : ExcludeEachOther tree (held_of assigned i) (held_of assigned j)
 
 -- a relation of messages, by number
 abbrev pub Relation : Type 1
@@ -38,6 +74,6 @@ Path before i j = (n : ℕ) × PathBy before n i j
 
 -- one hierarchy refines another on a trace when each ordered pair under the one is an ordered pair
 -- under the other
-abbrev pub Refines : List Node → List ℕ → List Node → List ℕ → Type 0
+abbrev pub Refines : List Node → List Held → List Node → List Held → Type 0
 Refines tree assigned coarse_tree coarse_assigned =
     (i j : ℕ) → IsOrdered tree assigned i j → IsOrdered coarse_tree coarse_assigned i j

@@ -3,6 +3,7 @@ use Rattle.std.specs.Prelude.{◌≡◌, ℕ, List, Contains}
 use Rattle.waff_model.specs.Layout.{Hierarchy}
 use Rattle.waff_model.specs.declared.cell.Cell.{Cell}
 use Rattle.waff_model.specs.declared.message.Message.{Message}
+use Rattle.waff_assign.specs.Held.{Held}
 use Rattle.waff_assign.specs.Lowest.{IsLowest, IsAssignment}
 
 -- two lowest affinities that cover the same cells are equal
@@ -13,6 +14,6 @@ LowestIsOne layout cells =
 -- two assignments of a trace are equal
 abbrev pub AssignmentIsOne : Hierarchy → List Message → Type 0
 AssignmentIsOne layout messages =
-    (assigned other : List ℕ) → IsAssignment layout messages assigned
+    (assigned other : List Held) → IsAssignment layout messages assigned
     → IsAssignment layout messages other
     → assigned ≡ other

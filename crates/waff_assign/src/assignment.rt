@@ -1,33 +1,43 @@
-//! The assignment of affinities to messages.
+//! What the messages of a trace hold.
 
-ghost use Rattle.std.specs.Prelude.{◌≡◌, ◌<◌, ◌≤◌, ◌++◌, length, All, Contains, IfOk, OnOk};
-ghost use Rattle.waff_assign.specs.Lowest.{IsAssignment, IsInFootprint, IsLowest, IsLowestOf};
+ghost use Rattle.std.specs.Prelude.{◌≡◌, ◌<◌, ◌≤◌, ◌++◌, ◌∷◌, [], List, length, option_map, All, Contains};
+ghost use Rattle.std.specs.Prelude.{IfOk, IfSome, OnOk};
+ghost use Rattle.waff_assign.specs.Held.{AreKnown};
+ghost use Rattle.waff_assign.specs.Lowest.{IsAffinityAmong, IsAffinityOf, IsAssignment, IsInFootprint};
+ghost use Rattle.waff_assign.specs.Lowest.{IsLowest, IsLowestOf, IsSomeLowestOf};
 ghost use Rattle.waff_model.specs.Cells.{cells_of, cells_of_op};
 ghost use Rattle.waff_model.specs.Layout.{IsCell};
 ghost use Rattle.waff_model.specs.Messages.{sizes_of};
 ghost use Rattle.waff_model.specs.Numbers.{IsAmongFirst};
+ghost use Rattle.waff_model.specs.declared.cell.Cell.{Cell};
 
 use crate::Assigned;
 use crate::covering::lowest_above;
+use crate::gathered::Gathered;
+use crate::locks::Locks;
+use crate::uses::list_uses;
 use rayon::prelude::*;
 use std::alloc::{AllocError, Global};
 use std::thread::Threads;
 use waff_model::{AffinityId, Cell, Layout, Op, Ops, Trace};
 
-/// The affinity of each message: the lowest that covers its footprint.
+/// What each message holds: the lowest affinity that covers its cells without locks, and the locks of the others.
 pub fn assign(alloc: Global, layout: &Layout, trace: &Trace) -> Result<Assigned, AllocError>
     requires fits { trace.now.sizes ≡ sizes_of layout.now.spaces }
     ensures assignment { IfOk result (IsAssignment layout.now trace.now.messages) }
-    ensures known { IfOk result (All (λ a. a < length layout.now.tree)) }
+    ensures known { IfOk result (AreKnown layout.now.tree) }
 {
+    if layout.has_locks() {
+        return assign_with_locks(alloc, layout, trace);
+    }
     let mut affinities = Vec::with_capacity(alloc, trace.len() as usize)?;
     for n in 1..trace.len() + 1 {
-        affinities.push_reserved(lowest_of_message(layout, trace, n));
+        affinities.push_reserved(Some(lowest_of_message(layout, trace, n)));
     }
-    Ok(Assigned::new(affinities))
+    Ok(Assigned::without_locks(alloc, affinities))
 }
 
-/// The affinity of each message, as `assign` finds it, but by several threads where there are many.
+/// What each message holds, as `assign` finds it, but without locks by several threads where there are many messages.
 pub fn assign_by_threads<R: Threads + Sync>(
     rt: &R,
     alloc: Global,
@@ -36,20 +46,40 @@ pub fn assign_by_threads<R: Threads + Sync>(
 ) -> Result<Assigned, AllocError>
     requires fits { trace.now.sizes ≡ sizes_of layout.now.spaces }
     ensures assignment { IfOk result (IsAssignment layout.now trace.now.messages) }
-    ensures known { IfOk result (All (λ a. a < length layout.now.tree)) }
+    ensures known { IfOk result (AreKnown layout.now.tree) }
 {
+    if layout.has_locks() {
+        return assign_with_locks(alloc, layout, trace);
+    }
     let affinities = (1..trace.len() + 1)
         .into_par_iter()
         .map(
-            |n: u32| -> AffinityId
+            |n: u32| -> Option<AffinityId>
                 requires fits { trace.now.sizes ≡ sizes_of layout.now.spaces }
                 requires number { IsAmongFirst (length trace.now.messages) n }
-                ensures lowest { IsLowestOf layout.entry.now trace.entry.now.messages n result.0 }
-                ensures within { result.0 < length layout.entry.now.tree }
-            { lowest_of_message(layout, trace, n) },
+                ensures { IsSomeLowestOf layout.entry.now trace.entry.now.messages n result }
+            { Some(lowest_of_message(layout, trace, n)) },
         )
         .collect(rt, alloc)?;
-    Ok(Assigned::new(affinities))
+    Ok(Assigned::without_locks(alloc, affinities))
+}
+
+/// What each message holds, where some spaces have locks.
+fn assign_with_locks(alloc: Global, layout: &Layout, trace: &Trace) -> Result<Assigned, AllocError>
+    requires fits { trace.now.sizes ≡ sizes_of layout.now.spaces }
+    ensures assignment { IfOk result (IsAssignment layout.now trace.now.messages) }
+    ensures known { IfOk result (AreKnown layout.now.tree) }
+{
+    let locks = Locks::of(alloc, layout, trace)?;
+    let mut gathered = Gathered::with_capacity(alloc, trace.len() as usize)?;
+    let mut uses = Vec::new(alloc);
+    let mut seen = Vec::new(alloc);
+    for n in 1..trace.len() + 1 {
+        let ops = &trace.message(n).ops;
+        list_uses(&mut uses, &mut seen, layout, &locks, ops)?;
+        gathered.push(lowest_without_locks(layout, ops), &uses)?;
+    }
+    Ok(gathered.assigned(locks.len()))
 }
 
 /// The lowest affinity that covers the footprint of message `n`.
@@ -99,6 +129,57 @@ fn lowest_of_op(layout: &Layout, op: Op) -> AffinityId
         | Op::Swap { cell, other } => {
             lowest_above(layout.tree(), layout.owner(cell), layout.owner(other))
         }
+    }
+}
+
+/// The lowest affinity that covers those cells without locks that the operations name; none where there is none.
+fn lowest_without_locks(layout: &Layout, ops: &Ops) -> Option<AffinityId>
+    requires cells { All (IsCell layout.now.spaces) (cells_of ops.now) }
+    ensures lowest { IsAffinityOf layout.now ops.now (option_map (λ a. a.0) result) }
+    ensures within { IfSome result (λ a. a.0 < length layout.now.tree) }
+{
+    let mut low = None;
+    for index in 0..ops.len() {
+        low = lowered_by_op(layout, low, ops.get(index));
+    }
+    low
+}
+
+/// The lowest affinity that covers what this one covers, and what the operation names without locks.
+fn lowered_by_op(layout: &Layout, low: Option<AffinityId>, op: Op) -> Option<AffinityId>
+    requires cells { All (IsCell layout.now.spaces) (cells_of_op op) }
+    requires known { IfSome low (λ a. a.0 < length layout.now.tree) }
+    ensures lowest { (cells : List Cell) → IsAffinityAmong layout.now cells (option_map (λ a. a.0) low)
+        → IsAffinityAmong layout.now (cells ++ cells_of_op op) (option_map (λ a. a.0) result) }
+    ensures within { IfSome result (λ a. a.0 < length layout.now.tree) }
+{
+    match op {
+        Op::Set { cell, .. } | Op::Add { cell, .. } | Op::Read { cell } => lowered(
+            layout, low, cell,
+        ),
+        Op::Copy {
+            cell,
+            source: other,
+        }
+        | Op::Swap { cell, other } => lowered(layout, lowered(layout, low, cell), other),
+    }
+}
+
+/// The lowest affinity that covers what this one covers, and the cell, if that has no lock.
+fn lowered(layout: &Layout, low: Option<AffinityId>, cell: Cell) -> Option<AffinityId>
+    requires cell { IsCell layout.now.spaces cell }
+    requires known { IfSome low (λ a. a.0 < length layout.now.tree) }
+    ensures lowest { (cells : List Cell) → IsAffinityAmong layout.now cells (option_map (λ a. a.0) low)
+        → IsAffinityAmong layout.now (cells ++ cell ∷ []) (option_map (λ a. a.0) result) }
+    ensures within { IfSome result (λ a. a.0 < length layout.now.tree) }
+{
+    if layout.locking(cell).are_some() {
+        return low;
+    }
+    let owner = layout.owner(cell);
+    match low {
+        Some(low) => Some(lowest_above(layout.tree(), low, owner)),
+        None => Some(owner),
     }
 }
 

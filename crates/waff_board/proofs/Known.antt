@@ -5,13 +5,11 @@ use Rattle.std.proofs.lemmas.Bool.{cases_order, eq-eqb}
 use Rattle.std.proofs.Math.Bool.{or-true}
 use Rattle.std.proofs.lemmas.Option.{none-some, same_Some}
 use Rattle.std.proofs.lemmas.Map.Steps.{le-length_from_below}
-use Rattle.waff_model.specs.Tree.{AtOrAbove}
-use Rattle.waff_assign.specs.Order.{affinity_of}
 use Rattle.waff_assign.proofs.Knowing.{owner_known}
 use Rattle.waff_order.specs.Needs.{IsNeed}
 use Rattle.waff_cells.specs.Meaning.{meaning}
 use Rattle.waff_cells.specs.Serial.{SameParcel, ops_of, serial}
-use Rattle.waff_core.specs.Job.{JobValue, IsJob, IsIn, IsOrder, IsOwner}
+use Rattle.waff_core.specs.Job.{JobValue, IsJob, IsIn, IsOrder, IsOwner, RunsAbove}
 use Rattle.waff_core.specs.Machine.{Core, IsClear, Runs, opening, phase_of}
 use Rattle.waff_core.specs.declared.actors.Event.{Event}
 use Rattle.waff_core.specs.declared.actors.Phase.TheVariants.{Running}
@@ -68,7 +66,7 @@ module _ (job : JobValue) (is : IsJob job) (core : Core) (sound : Sound job core
   in_job x m has = drawn_is_in job is core.drawn m (sound.held x m has)
 
   above : (x m a : ℕ) → Has core.phases x m → IsOwner job.layout.spaces (ops_of job.ops m) a
-      → AtOrAbove job.layout.tree (affinity_of job.assigned m) a
+      → RunsAbove job m a
   above x m a has owner = above_owner job is m a (in_job x m has) owner
 
   -- an earlier message of one owner is done

@@ -5,8 +5,8 @@ use Rattle.std.specs.Global.{Vec}
 use mathlib.Core.Option.{some}
 use lib.ListN.{get_elem?}
 use Rattle.atomic_table.specs.Table.{State}
-use Rattle.waff_model.specs.Tree.{Excludes}
-use Rattle.waff_assign.specs.Order.{affinity_of}
+use Rattle.waff_assign.specs.Held.{ExcludeEachOther}
+use Rattle.waff_assign.specs.Order.{held_of}
 use Rattle.waff_core.specs.Job.{IsIn, StandsAt}
 use Rattle.waff_core.specs.Machine.{Steps, opening}
 use Rattle.waff_core.specs.declared.actors.Event.TheVariants.{Draw, Begin, End}
@@ -75,8 +75,8 @@ RunningExcludeNobody setup =
     (s : State (Vec ℕ) View) → IsBetween setup s
     → (seat other : ℕ) (v w : View) → Knows s seat v → Knows s other w → seat ≢ other
     → (m n : ℕ) → v.phase ≡ Running m → w.phase ≡ Running n
-    → ¬ Excludes setup.job.layout.tree (affinity_of setup.job.assigned m)
-    (affinity_of setup.job.assigned n)
+    → ¬ ExcludeEachOther setup.job.layout.tree (held_of setup.job.assigned m)
+    (held_of setup.job.assigned n)
 
 -- whether an actor in this phase runs a message
 abbrev pub runs : Phase → Bool

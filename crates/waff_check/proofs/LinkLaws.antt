@@ -12,6 +12,7 @@ use Rattle.waff_plan.specs.Serving.{IsStartedBefore, started_before}
 use Rattle.waff_plan.specs.Work.{IsNumber, Work}
 use Rattle.waff_check.specs.Faults.{AreLinked, IsBroken, link_at}
 use Rattle.waff_check.proofs.FirstLaws.{NoneBelow}
+use Rattle.waff_assign.specs.Held.{Held}
 
 -- what holds of each message holds of the first, and of each of the others
 All-first : (P : ℕ → Type 0) (xs more : List ℕ) (x : ℕ) → xs ≡ x ∷ more → All P xs → P x
@@ -93,14 +94,14 @@ chain-of-more before more work wider (m ∷ rest) h = on m rest h
     on m (next ∷ rest) h = (h.0, linked m next h.1, on next rest h.2)
 
 -- what a plan serves before what, by whether messages have clients
-pub in_turn : (version : Version) (tree : List Node) (assigned : List ℕ) (start : ℕ → ℕ) → has_clients version ≡ false
+pub in_turn : (version : Version) (tree : List Node) (assigned : List Held) (start : ℕ → ℕ) → has_clients version ≡ false
     → started_before version tree assigned start ≡ IsOrdered tree assigned
 in_turn V1 tree assigned start none = refl
 in_turn V2 tree assigned start none = refl
 in_turn V3 tree assigned start none = absurd (cc)
 in_turn V4 tree assigned start none = absurd (cc)
 
-pub by_starts : (version : Version) (tree : List Node) (assigned : List ℕ) (start : ℕ → ℕ) → has_clients version ≡ true
+pub by_starts : (version : Version) (tree : List Node) (assigned : List Held) (start : ℕ → ℕ) → has_clients version ≡ true
     → started_before version tree assigned start ≡ IsStartedBefore tree assigned start
 by_starts V1 tree assigned start some = absurd (cc)
 by_starts V2 tree assigned start some = absurd (cc)

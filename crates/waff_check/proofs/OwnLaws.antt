@@ -44,6 +44,7 @@ use Rattle.waff_check.proofs.LinkLaws.{chain-linked, chain-of-more}
 use Rattle.waff_check.proofs.ListLaws.{none_listed, none_unissued}
 use Rattle.waff_check.proofs.OverlapLaws.{overlap_parts}
 use Rattle.waff_check.proofs.ServedLaws.{none_early}
+use Rattle.waff_assign.specs.Held.{Held}
 
 -- no more run at a tick under the same starts
 no_more_run : (work : Work) (start other : ℕ → ℕ) → AreSame work start other → (t : ℕ) → running work start t ≤ running work other t
@@ -94,7 +95,7 @@ no_workers : (work : Work) (start : ℕ → ℕ) (told : ℕ → Option ℕ) →
 no_workers work start told tells n wrong =
     subst (λ w. IsMisplaced work start told None n w) (tells n wrong.number) wrong.wrong
 
-issued_apart : (tree : List Node) (assigned : List ℕ) (work : Work) (start : ℕ → ℕ) → length assigned ≡ work.count
+issued_apart : (tree : List Node) (assigned : List Held) (work : Work) (start : ℕ → ℕ) → length assigned ≡ work.count
     → Obeys (IsServedBefore tree assigned work start) work start → AreApart (IsOrdered tree assigned) work start
 issued_apart tree assigned work start long obeys i j pair =
     let ordered = pair.ordered in
@@ -114,14 +115,14 @@ issued_apart tree assigned work start long obeys i j pair =
     ]
 
 -- what a plan has to keep, by the version of its trace
-abbrev KeepsFor : Version → List Node → List ℕ → Work → (ℕ → ℕ) → Type 0
+abbrev KeepsFor : Version → List Node → List Held → Work → (ℕ → ℕ) → Type 0
 KeepsFor V1 tree assigned work start = KeepsOrder (IsOrdered tree assigned) work start
 KeepsFor V2 tree assigned work start = KeepsOrder (IsOrdered tree assigned) work start
 KeepsFor V3 tree assigned work start = AreApart (IsOrdered tree assigned) work start
 KeepsFor V4 tree assigned work start = AreApart (IsOrdered tree assigned) work start
 
 -- a plan that obeys the order of its version keeps that
-served_keeps : (version : Version) (tree : List Node) (assigned : List ℕ) (work : Work) (start : ℕ → ℕ) → length assigned ≡ work.count
+served_keeps : (version : Version) (tree : List Node) (assigned : List Held) (work : Work) (start : ℕ → ℕ) → length assigned ≡ work.count
     → Obeys (served_before version tree assigned work start) work start → KeepsFor version tree assigned work start
 served_keeps V1 tree assigned work start long obeys = obeys.ordered
 served_keeps V2 tree assigned work start long obeys = obeys.ordered
@@ -129,7 +130,7 @@ served_keeps V3 tree assigned work start long obeys = issued_apart tree assigned
 served_keeps V4 tree assigned work start long obeys = issued_apart tree assigned work start long obeys
 
 -- and so does one that keeps the order of its chains, and whose messages that exclude each other run at no common tick
-started_keeps : (version : Version) (tree : List Node) (assigned : List ℕ) (work : Work) (start : ℕ → ℕ)
+started_keeps : (version : Version) (tree : List Node) (assigned : List Held) (work : Work) (start : ℕ → ℕ)
     → KeepsOrder (started_before version tree assigned start) work start → AreApart (IsOrdered tree assigned) work start
     → KeepsFor version tree assigned work start
 started_keeps V1 tree assigned work start order apart = order
@@ -138,7 +139,7 @@ started_keeps V3 tree assigned work start order apart = apart
 started_keeps V4 tree assigned work start order apart = apart
 
 -- under the same starts no pair of such a plan overlaps
-none_overlap : (version : Version) (tree : List Node) (assigned : List ℕ) (work : Work) (start told : ℕ → ℕ)
+none_overlap : (version : Version) (tree : List Node) (assigned : List Held) (work : Work) (start told : ℕ → ℕ)
     → AreSame work told start → KeepsFor version tree assigned work start
     → (i j : ℕ) → IsNumber work i → IsNumber work j → OverlapsWhere (has_clients version) (IsOrdered tree assigned) work told i j → ⊥
 none_overlap V1 tree assigned work start told same order i j first second pair =
@@ -151,14 +152,14 @@ none_overlap V4 tree assigned work start told same apart i j first second pair =
     apart i j (record { ordered = pair.ordered; together = together_too work told start same i j first second pair.together })
 
 -- messages start in the same order
-starts_too : (tree : List Node) (assigned : List ℕ) (work : Work) (start told : ℕ → ℕ) → length assigned ≡ work.count → AreSame work told start
+starts_too : (tree : List Node) (assigned : List Held) (work : Work) (start told : ℕ → ℕ) → length assigned ≡ work.count → AreSame work told start
     → (i j : ℕ) → IsStartedBefore tree assigned start i j → IsStartedBefore tree assigned told i j
 starts_too tree assigned work start told long same i j before =
     let one = same i (record { from = before.first.from; to = omega (arith, before.first.to, long) }) in
     let other = same j (record { from = before.second.from; to = omega (arith, before.second.to, long) }) in
     record { first = before.first; second = before.second; precedes = omega (arith, one, other, before.precedes); excludes = before.excludes }
 
-started_too : (version : Version) (tree : List Node) (assigned : List ℕ) (work : Work) (start told : ℕ → ℕ) → length assigned ≡ work.count
+started_too : (version : Version) (tree : List Node) (assigned : List Held) (work : Work) (start told : ℕ → ℕ) → length assigned ≡ work.count
     → AreSame work told start → (i j : ℕ) → started_before version tree assigned start i j → started_before version tree assigned told i j
 started_too V1 tree assigned work start told long same i j before = before
 started_too V2 tree assigned work start told long same i j before = before

@@ -6,7 +6,7 @@ use Rattle.waff_model.specs.Tree.{Node}
 use Rattle.waff_model.specs.Versions.{has_clients}
 use Rattle.waff_model.specs.declared.message.Version.{Version}
 use Rattle.waff_model.specs.declared.message.Version.TheVariants.{V1, V2, V3, V4}
-use Rattle.waff_assign.specs.Order.{IsOrdered, Relation, affinity_of}
+use Rattle.waff_assign.specs.Order.{IsOrdered, Relation, held_of}
 use Rattle.waff_plan.specs.Apart.{AreApart}
 use Rattle.waff_plan.specs.IssueLaws.{StartsIssued}
 use Rattle.waff_plan.specs.Obeys.{KeepsOrder}
@@ -20,16 +20,17 @@ use Rattle.waff_plan.proofs.FollowLemmas.{awaits_one}
 use Rattle.waff_plan.proofs.Holding.{floor-le-issue, gap_same}
 use Rattle.waff_plan.proofs.TimingLemmas.{are_timings, length-timings_of}
 use Rattle.waff_check.specs.Faults.{NoneOf, Overlaps, OverlapsWhere, StartsEarly}
+use Rattle.waff_assign.specs.Held.{Held}
 
 -- each message runs at a tick
-abbrev pub AllRun : Work → List ℕ → Type 0
+abbrev pub AllRun : Work → List Held → Type 0
 AllRun work assigned = (m : ℕ) → IsAmongFirst (length assigned) m → 1 ≤ work.cost m
 
 -- no pair overlaps
 abbrev pub NoneOverlap : Version → Relation → Work → (ℕ → ℕ) → Type 0
 NoneOverlap version before work start = (i j : ℕ) → OverlapsWhere (has_clients version) before work start i j → ⊥
 
-module _ (tree : List Node) (assigned : List ℕ) (work : Work) (start : ℕ → ℕ) where
+module _ (tree : List Node) (assigned : List Held) (work : Work) (start : ℕ → ℕ) where
   in_order : ((i j : ℕ) → Overlaps (IsOrdered tree assigned) work start i j → ⊥) → KeepsOrder (IsOrdered tree assigned) work start
   in_order none i j pair = elim (cases_lt (start j) (finish_of work start i)) [
     | inl early ↦ absurd (none i j (record { ordered = pair; early = early }))
@@ -46,7 +47,7 @@ module _ (tree : List Node) (assigned : List ℕ) (work : Work) (start : ℕ →
           | inl same ↦ absurd (let later : start i < start j = before.precedes in let none : start j < start j = rw same at later in omega (arith, none))
           | inr (inl less) ↦ absurd (apart i j (record { ordered = record { from = before.first.from; earlier = less; to = before.second.to; excludes = before.excludes }; together = together }))
           | inr (inr more) ↦ absurd (apart j i (record {
-            ordered = record { from = before.second.from; earlier = more; to = before.first.to; excludes = excludes_back tree (affinity_of assigned i) (affinity_of assigned j) before.excludes };
+            ordered = record { from = before.second.from; earlier = more; to = before.first.to; excludes = excludes_back tree (held_of assigned i) (held_of assigned j) before.excludes };
             together = turned work start i j together;
           }))
         ]
@@ -81,7 +82,7 @@ gap_after_one n think some = ap (gap_after n) (awaits_one n think some) ∙ alon
     alone = omega (arith, gap_same (record { message = n; gap = think }) n refl)
 
 -- in a trace each message runs at a tick
-pub all_run : (trace : Arrivals) → IsTrace trace → (assigned : List ℕ) → length trace.messages ≡ length assigned → AllRun (work_of_messages trace.messages) assigned
+pub all_run : (trace : Arrivals) → IsTrace trace → (assigned : List Held) → length trace.messages ≡ length assigned → AllRun (work_of_messages trace.messages) assigned
 all_run trace is assigned long m number =
     let within : m - 1 < length (timings_of trace.messages) = omega (arith, number.from, number.to, long, length-timings_of trace.messages) in
     ((are_timings trace is).small (m - 1) no_timing within).some_cost

@@ -4,7 +4,7 @@ use Rattle.std.proofs.lemmas.Bool.{cases_lt, cases_order}
 use Rattle.waff_model.specs.Tree.{Node}
 use Rattle.waff_model.specs.declared.message.Version.{Version}
 use Rattle.waff_model.specs.declared.message.Version.TheVariants.{V1, V2, V3, V4}
-use Rattle.waff_assign.specs.Order.{IsOrdered, affinity_of}
+use Rattle.waff_assign.specs.Order.{IsOrdered, held_of}
 use Rattle.waff_plan.specs.Apart.{AreApart}
 use Rattle.waff_plan.specs.Obeys.{KeepsOrder, Obeys}
 use Rattle.waff_plan.specs.ServesAs.{ServesAs}
@@ -13,22 +13,23 @@ use Rattle.waff_plan.specs.Work.{IsAmongFirst, Work, finish_of}
 use Rattle.waff_plan.proofs.ApartLaws.{apart_where_finished, together_where_running, turned}
 use Rattle.waff_plan.proofs.Exclusion.{excludes_back}
 use Rattle.waff_check.proofs.ServedLaws.{AllRun}
+use Rattle.waff_assign.specs.Held.{Held}
 
-first_of : (tree : List Node) (assigned : List ℕ) (i j : ℕ) → IsOrdered tree assigned i j → IsAmongFirst (length assigned) i
+first_of : (tree : List Node) (assigned : List Held) (i j : ℕ) → IsOrdered tree assigned i j → IsAmongFirst (length assigned) i
 first_of tree assigned i j pair =
     let from : 1 ≤ i = pair.from in
     let earlier : i < j = pair.earlier in
     let to : j ≤ length assigned = pair.to in
     record { from = from; to = omega arith }
 
-second_of : (tree : List Node) (assigned : List ℕ) (i j : ℕ) → IsOrdered tree assigned i j → IsAmongFirst (length assigned) j
+second_of : (tree : List Node) (assigned : List Held) (i j : ℕ) → IsOrdered tree assigned i j → IsAmongFirst (length assigned) j
 second_of tree assigned i j pair =
     let from : 1 ≤ i = pair.from in
     let earlier : i < j = pair.earlier in
     let to : j ≤ length assigned = pair.to in
     record { from = omega arith; to = to }
 
-module _ (tree : List Node) (assigned : List ℕ) (work : Work) (start : ℕ → ℕ) (run : AllRun work assigned) where
+module _ (tree : List Node) (assigned : List Held) (work : Work) (start : ℕ → ℕ) (run : AllRun work assigned) where
   -- of two messages that exclude each other one starts first
   one_starts : AreApart (IsOrdered tree assigned) work start → (i j : ℕ) → IsOrdered tree assigned i j → (start i < start j) ⊎ (start j < start i)
   one_starts apart i j pair = elim (cases_order (start i) (start j)) [
@@ -61,7 +62,7 @@ module _ (tree : List Node) (assigned : List ℕ) (work : Work) (start : ℕ →
       first = second_of tree assigned i j pair;
       second = first_of tree assigned i j pair;
       precedes = more;
-      excludes = excludes_back tree (affinity_of assigned i) (affinity_of assigned j) pair.excludes;
+      excludes = excludes_back tree (held_of assigned i) (held_of assigned j) pair.excludes;
     })
   ]
 
@@ -82,7 +83,7 @@ module _ (tree : List Node) (assigned : List ℕ) (work : Work) (start : ℕ →
       from = before.second.from;
       earlier = more;
       to = before.first.to;
-      excludes = excludes_back tree (affinity_of assigned i) (affinity_of assigned j) before.excludes;
+      excludes = excludes_back tree (held_of assigned i) (held_of assigned j) before.excludes;
     })
   ]
 

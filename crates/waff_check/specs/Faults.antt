@@ -65,7 +65,7 @@ pub record HasWrongWorker (work : Work) (start : ℕ → ℕ) (worker : ℕ → 
   pub number : IsNumber work n
   pub wrong : IsMisplaced work start worker workers n (worker n)
 
--- a message whose row tells another name than its affinity has
+-- a message whose row tells another name than its affinity has, and of one that has none anything but a hyphen
 pub record HasWrongName (work : Work) (told name : ℕ → List ℕ) (n : ℕ) : Type 0 where
   pub number : IsNumber work n
   pub wrong : told n ≢ name n

@@ -1,5 +1,5 @@
 -- The verdict on a plan that is given: the first fault, or else how good the plan is.
-use Rattle.std.specs.Prelude.{◌≡◌, ℕ, ◌+◌, ◌<◌, Bool, false, true, List, length, map, All, Option, Some}
+use Rattle.std.specs.Prelude.{◌≡◌, ℕ, ◌+◌, ◌<◌, Bool, false, true, List, length, map, Option, Some}
 use Rattle.waff_model.specs.Versions.{has_clients}
 use Rattle.waff_model.specs.declared.message.Version.{Version}
 use Rattle.waff_assign.specs.Instance.{Instance, before_in}
@@ -19,6 +19,7 @@ use Rattle.waff_check.specs.Faults.{OverlapsWhere, StartsEarly, StartsHeld, Star
 use Rattle.waff_check.specs.Listed.{list_work_of}
 use Rattle.waff_check.specs.declared.verdict.Verdict.{Verdict}
 use Rattle.waff_check.specs.declared.verdict.Verdict.TheVariants as verdict
+use Rattle.waff_assign.specs.Held.{AreKnown}
 
 -- a plan that is given for an instance
 pub record Claim : Type 0 where
@@ -28,11 +29,11 @@ pub record Claim : Type 0 where
 abbrev pub claim_of : Instance → Given → Claim
 claim_of instance plan = record { instance = instance; plan = plan }
 
--- the assignment, the rows and the messages are as many, and the affinities are those of the tree
+-- the assignment, the rows and the messages are as many, and what messages hold is of the tree
 pub record IsClaim (claim : Claim) : Type 0 where
   pub lengths : length claim.instance.trace.messages ≡ length claim.instance.assigned
   pub rows : length claim.plan.rows ≡ length claim.instance.trace.messages
-  pub known : All (λ a. a < length claim.instance.tree) claim.instance.assigned
+  pub known : AreKnown claim.instance.tree claim.instance.assigned
 
 -- the version, the work and the starts
 abbrev pub version_of : Claim → Version

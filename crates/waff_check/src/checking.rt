@@ -25,7 +25,7 @@ use waff_plan::lower_bound::lower_bound;
 use waff_plan::{Planned, Totals};
 use waff_plan_text::GivenPlan;
 
-/// The verdict on a plan that is given for the messages of a trace, whose affinities are assigned:
+/// The verdict on a plan that is given for the messages of a trace, which hold what is assigned:
 /// the first fault of the first kind that there is, or else how good the plan is. Pairs of messages
 /// are walked over only to name an overlap that is there, in threads.
 pub fn check<R: Threads + Sync>(

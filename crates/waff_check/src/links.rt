@@ -9,7 +9,7 @@ ghost use Rattle.waff_plan.specs.Work.{IsAwaited, IsNumber};
 ghost use Rattle.waff_check.specs.Faults.{AreLinked, IsBroken, IsLeastOf};
 ghost use Rattle.waff_check.specs.Searches.{planned_before, planned_links};
 
-use waff_assign::is_ordered;
+use waff_assign::{exclude_each_other, is_ordered};
 use waff_model::Await;
 use waff_plan::Planned;
 
@@ -21,7 +21,7 @@ fn starts_first(planned: &Planned<'_>, i: u32, j: u32) -> bool
         planned.now.case.assigned.now (planned_starts planned.now) i j }
 {
     let (tree, assigned) = (planned.case.tree, planned.case.assigned);
-    planned.plan.start(i) < planned.plan.start(j) && tree.excludes(assigned.of(i), assigned.of(j))
+    planned.plan.start(i) < planned.plan.start(j) && exclude_each_other(tree, assigned, i, j)
 }
 
 /// Whether the plan serves message `i` before message `j`: they are an ordered pair, or where messages

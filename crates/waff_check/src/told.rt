@@ -14,7 +14,7 @@ use crate::claim::Claim;
 use waff_model::Await;
 use waff_plan::{Plan, Planned};
 
-/// The first message whose row does not tell the name of its affinity.
+/// The first message whose row does not tell the name of its affinity, or no hyphen where it has none.
 pub(crate) fn wrong_name(claim: &Claim<'_>) -> Option<u32>
     ensures { MatchOption result
         (NoneOf (HasWrongName (planned_work claim.now.planned) (told_name claim.now.given.now)

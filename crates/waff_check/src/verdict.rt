@@ -12,7 +12,7 @@ pub enum Verdict {
     TooManyAt { tick: u64 },
     /// The worker that the message's row tells is wrong.
     Worker { message: u32 },
-    /// The message's row does not name its affinity.
+    /// The message's row does not name its affinity, or has no hyphen where the message has none.
     Affinity { message: u32 },
     /// The message's row does not tell the finish that its start and its cost make.
     Finish { message: u32 },

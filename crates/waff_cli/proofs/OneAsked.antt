@@ -11,7 +11,8 @@ use Rattle.waff_figures.specs.declared.told.Told.{Told}
 use Rattle.waff_figures.specs.declared.told.Told.TheVariants as told
 use Rattle.waff_list.specs.declared.rule.Rule.{Rule}
 use Rattle.waff_cli.specs.Unique.{AskedIsOne, IsSameAsked}
-use Rattle.waff_cli.specs.Words.{IsAsked, columns_in, drawing_in, grouping_in, label_in, number_in, rule_in, workers_in}
+use Rattle.waff_model.specs.declared.locking.Locking.{Locking}
+use Rattle.waff_cli.specs.Words.{IsAsked, columns_in, drawing_in, grouping_in, label_in, locking_in, number_in, rule_in, steps_in, workers_in}
 use Rattle.waff_cli.specs.declared.words.Asked.{Asked}
 use Rattle.waff_cli.specs.declared.words.Asked.TheVariants as asked
 use Rattle.waff_cli.specs.declared.words.Drawing.{Drawing}
@@ -32,6 +33,7 @@ asked_for given part command rows =
     else (if bytes_eq command (codes "where") then option_map (λ (rule : Rule). asked.Told (told.Where (workers_in rows) rule (label_in rows) (columns_in rows))) (rule_in rows)
     else (if bytes_eq command (codes "waits") then option_map (λ (rule : Rule). asked.Told (waits_for (number_in rows (codes "worst")) rows rule)) (rule_in rows)
     else (if bytes_eq command (codes "why") then Some (asked.Told (told.Why (grouping_in rows)))
+    else (if bytes_eq command (codes "locks") then option_map (λ (rule : Rule). asked.Told (told.Locks (workers_in rows) rule (locking_in rows) (steps_in rows))) (rule_in rows)
     else (if bytes_eq command (codes "check") then Some asked.Check
     else (if bytes_eq command (codes "replay") then Some (asked.Replay (workers_in rows))
     else (if bytes_eq command (codes "compare") then option_map (λ (k : ℕ). asked.Compare k) (workers_in rows)
@@ -39,7 +41,7 @@ asked_for given part command rows =
     else (if bytes_eq command (codes "draw") then option_and_then (λ (drawing : Drawing). option_map (λ (some : Part). asked.Draw drawing some) part) (drawing_in rows)
     else (if bytes_eq command (codes "rank") then option_and_then (λ (k : ℕ). option_map (λ (rule : Rule). asked.Rank k rule) (rule_in rows)) (workers_in rows)
     else (if bytes_eq command (codes "explain") then Some asked.Explain
-    else None))))))))))))))
+    else None)))))))))))))))
 
 where_is : (rows : List Row) (workers : Option ℕ) (rule : Rule) (label : Option Label) (columns : Columns) → workers ≡ workers_in rows
     → label ≡ label_in rows → columns ≡ columns_in rows
@@ -52,6 +54,12 @@ waits_is : (rows : List Row) (workers : Option ℕ) (rule : Rule) (grouping : Gr
     → told.Waits workers rule grouping ≡ told.Waits (workers_in rows) rule (grouping_in rows)
 waits_is rows workers rule grouping p q =
     ap (λ w. told.Waits w rule grouping) p ∙ ap (λ g. told.Waits (workers_in rows) rule g) q
+
+locks_is : (rows : List Row) (workers : Option ℕ) (rule : Rule) (kind : Locking) (steps : ℕ) → workers ≡ workers_in rows → kind ≡ locking_in rows
+    → steps ≡ steps_in rows → told.Locks workers rule kind steps ≡ told.Locks (workers_in rows) rule (locking_in rows) (steps_in rows)
+locks_is rows workers rule kind steps p q r =
+    ap (λ w. told.Locks w rule kind steps) p ∙ ap (λ k. told.Locks (workers_in rows) rule k steps) q
+    ∙ ap (λ n. told.Locks (workers_in rows) rule (locking_in rows) n) r
 
 module _ (rows : List Row) where
   -- by this command
@@ -80,6 +88,8 @@ module _ (rows : List Row) where
       by None None command (codes "waits") (asked.Told (told.Waits workers rule grouping)) p.0 (ap (option_map (λ (rule : Rule). asked.Told (waits_for (number_in rows (codes "worst")) rows rule))) p.2 ∙ ap (λ n. Some (asked.Told (waits_for n rows rule))) p.3 ∙ ap (λ t. Some (asked.Told t)) (sym (waits_is rows workers rule grouping p.1 p.4)))
   stands command (asked.Told (told.Worst workers rule most)) p =
       by None None command (codes "waits") (asked.Told (told.Worst workers rule most)) p.0 (ap (option_map (λ (rule : Rule). asked.Told (waits_for (number_in rows (codes "worst")) rows rule))) p.2 ∙ ap (λ n. Some (asked.Told (waits_for n rows rule))) p.3 ∙ ap (λ w. Some (asked.Told (told.Worst w rule most))) (sym p.1))
+  stands command (asked.Told (told.Locks workers rule kind steps)) p =
+      by None None command (codes "locks") (asked.Told (told.Locks workers rule kind steps)) p.0 (ap (option_map (λ (rule : Rule). asked.Told (told.Locks (workers_in rows) rule (locking_in rows) (steps_in rows)))) p.2 ∙ ap (λ t. Some (asked.Told t)) (sym (locks_is rows workers rule kind steps p.1 p.3 p.4)))
   stands command (asked.Told (told.Why grouping)) p =
       by None None command (codes "why") (asked.Told (told.Why grouping)) p.0 (ap (λ g. Some (asked.Told (told.Why g))) (sym p.1))
   stands command asked.Check p = by None None command (codes "check") asked.Check p (refl)
@@ -131,6 +141,8 @@ module _ (rows : List Row) where
         let equal : Some (asked.Told (told.Limits given rule)) ≡ Some other = sym (ap (option_map (λ (rule : Rule). asked.Told (told.Limits given rule))) p.2) ∙ there in
         let its = kept command (asked.Told (told.Limits given rule)) q equal in
         moved (asked.Told (told.Limits mine rule)) (asked.Told (told.Limits given rule)) equal (p.1 ∙ sym its.1, refl)
+    same given part command q (asked.Told (told.Locks workers rule kind steps)) p is =
+        moved (asked.Told (told.Locks workers rule kind steps)) (asked.Told (told.Locks (workers_in rows) rule (locking_in rows) (steps_in rows))) (sym (ap (option_map (λ (rule : Rule). asked.Told (told.Locks (workers_in rows) rule (locking_in rows) (steps_in rows)))) p.2) ∙ at given part command (codes "locks") p.0 is) (locks_is rows workers rule kind steps p.1 p.3 p.4)
     same given part command q (asked.Told (told.Where workers rule label columns)) p is =
         moved (asked.Told (told.Where workers rule label columns)) (asked.Told (told.Where (workers_in rows) rule (label_in rows) (columns_in rows))) (sym (ap (option_map (λ (rule : Rule). asked.Told (told.Where (workers_in rows) rule (label_in rows) (columns_in rows)))) p.2) ∙ at given part command (codes "where") p.0 is) (where_is rows workers rule label columns p.1 p.3 p.4)
     same given part command q (asked.Told (told.Waits workers rule grouping)) p is =

@@ -7,5 +7,6 @@ use Rattle.waff_cli.specs.declared.words.Asked.TheVariants as asked
 
 pub within_limits-prop : (asked : Asked) → IsProp (IsWithinLimits asked)
 within_limits-prop (asked.Told (told.Worst workers rule most)) = Prim.hlevel props
+within_limits-prop (asked.Told (told.Locks workers rule kind steps)) = Prim.hlevel props
 within_limits-prop (asked.Replay workers) = Prim.hlevel props
 within_limits-prop asked = Prim.hlevel props

@@ -3,14 +3,15 @@ use Rattle.std.specs.Prelude.{◌≤◌, ◌+◌, ℕ, IfSome}
 use Rattle.waff_core.specs.Seats.{IsSeats}
 use Rattle.waff_figures.specs.declared.told.Told.TheVariants as told
 use Rattle.waff_inputs.specs.declared.inputs.TheConstants.{MAX_RANKED}
-use Rattle.waff_cli.specs.declared.commands.TheConstants.{MAX_WORST}
+use Rattle.waff_cli.specs.declared.commands.TheConstants.{MAX_STEPS, MAX_WORST}
 use Rattle.waff_cli.specs.declared.words.Asked.{Asked}
 use Rattle.waff_cli.specs.declared.words.Asked.TheVariants as asked
 
 -- where a replay is asked for for a number of threads, that number is within the limits; of messages
--- of the greatest latency there is one at least. Numbers of workers are so by their type
+-- of the greatest latency there is one at least; steps are within theirs. Numbers of workers are so by their type
 abbrev pub IsWithinLimits : Asked → Type 0
 IsWithinLimits (asked.Told (told.Worst workers rule most)) = (1 ≤ most) × (most ≤ MAX_WORST)
+IsWithinLimits (asked.Told (told.Locks workers rule kind steps)) = steps ≤ MAX_STEPS
 IsWithinLimits (asked.Replay workers) = IfSome workers IsSeats
 IsWithinLimits asked = Unit {0}
 

@@ -18,6 +18,9 @@ use Rattle.waff_figures.specs.declared.told.Told.{Told}
 use Rattle.waff_figures.specs.declared.told.Told.TheVariants as told
 use Rattle.waff_list.specs.declared.rule.Rule.{Rule}
 use Rattle.waff_list.specs.declared.rule.Rule.TheVariants as rule
+use Rattle.waff_model.specs.declared.locking.Locking.{Locking}
+use Rattle.waff_model.specs.declared.locking.Locking.TheVariants as locking
+use Rattle.waff_cli.specs.declared.commands.TheConstants.{STEPS}
 use Rattle.waff_cli.specs.declared.run_words.RunWords.{RunWords}
 use Rattle.waff_cli.specs.declared.run_words.TheConstants.{CELL}
 use Rattle.waff_cli.specs.declared.tick.TheConstants.{TICK}
@@ -89,6 +92,17 @@ label_in rows = label_for (is_set rows (codes "names")) (is_set rows (codes "cli
 abbrev pub grouping_in : List Row → Grouping
 grouping_in rows = grouping_for (is_set rows (codes "names"))
 
+-- the kind of locks, by whether `--shared` is given
+abbrev pub locking_for : Bool → Locking
+locking_for true = locking.Shared
+locking_for false = locking.Exclusive
+
+abbrev pub locking_in : List Row → Locking
+locking_in rows = locking_for (is_set rows (codes "shared"))
+
+abbrev pub steps_in : List Row → ℕ
+steps_in rows = unwrap_or (number_in rows (codes "steps")) STEPS
+
 abbrev pub columns_in : List Row → Columns
 columns_in rows = columns_for (is_set rows (codes "figures"))
 
@@ -119,6 +133,9 @@ IsToldAsked command rows (told.Worst workers rule most) =
     × (number_in rows (codes "worst") ≡ Some most) × (grouping_in rows ≡ grouping.Affinity)
 IsToldAsked command rows (told.Why grouping) =
     (command ≡ codes "why") × (grouping ≡ grouping_in rows)
+IsToldAsked command rows (told.Locks workers rule kind steps) =
+    (command ≡ codes "locks") × (workers ≡ workers_in rows) × (rule_in rows ≡ Some rule)
+    × (kind ≡ locking_in rows) × (steps ≡ steps_in rows)
 
 -- the words of this command ask for this
 abbrev pub IsAsked : List ℕ → List Row → Asked → Type 0

@@ -45,6 +45,10 @@ pub enum Word {
     Figures,
     /// `--worst`.
     Worst,
+    /// `--shared`.
+    Shared,
+    /// `--steps`.
+    Steps,
     /// A word of `run` alone.
     Run(RunWord),
     /// `--as`.
@@ -84,6 +88,12 @@ pub const MAX_SWEPT: usize = 64;
 
 /// Messages of the greatest latency: no trace has more messages.
 pub const MAX_WORST: u32 = 1_048_576;
+
+/// Steps in which spaces get locks one after another: no hierarchy has more spaces.
+pub const MAX_STEPS: u32 = 256;
+
+/// How many steps there are unless another number is asked for.
+pub const STEPS: u32 = 8;
 
 /// The rules by which a free worker takes a message.
 pub static RULES: [&str; 2] = ["arrival", "longest"];

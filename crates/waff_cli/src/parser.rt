@@ -1,6 +1,6 @@
 //! The parser of the table of commands.
 use crate::commands::{
-    CommandWords, FileWord, MAX_SWEPT, MAX_WORST, PICTURES, RULES, RunWord, Word,
+    CommandWords, FileWord, MAX_STEPS, MAX_SWEPT, MAX_WORST, PICTURES, RULES, RunWord, STEPS, Word,
 };
 use crate::run_words::MAX_CELL;
 use crate::{help, table};
@@ -12,6 +12,9 @@ use waff_model::limits::{MAX_TICK, MAX_WORKERS};
 
 /// The limits that help and refusals name.
 const _: () = prove!(MAX_WORKERS == 64 && MAX_SEATS == 16 && MAX_SWEPT == 64 && MAX_RANKED == 64);
+
+/// The steps that help names.
+const _: () = prove!(MAX_STEPS == 256 && STEPS == 8);
 
 /// The option of every command that has standard error read as at a terminal.
 pub(crate) const VERBOSE: &str = "verbose";
@@ -96,6 +99,12 @@ fn arg<'a>(alloc: Global, word: Word) -> Arg<'a> {
         Word::Clients => flag(alloc, "clients", "A line for each client; not with --names"),
         Word::Figures => flag(alloc, "figures", "With waits and latencies of each line"),
         Word::Worst => worst(alloc),
+        Word::Shared => flag(
+            alloc,
+            "shared",
+            "Locks that messages share which only read the cell",
+        ),
+        Word::Steps => steps(alloc),
         Word::Run(word) => run_arg(alloc, word),
         Word::Picture => picture(alloc),
         Word::From => tick(alloc, "from", "The tick at which the part begins").default_value("0"),
@@ -231,6 +240,17 @@ fn worst<'a>(alloc: Global) -> Arg<'a> {
     )
     .value_name("N")
     .value_parser(value_parser!(u32).range(1..=i64::from(MAX_WORST)))
+}
+
+/// In how many steps spaces get locks.
+fn steps<'a>(alloc: Global) -> Arg<'a> {
+    option(
+        alloc,
+        "steps",
+        "So many spaces at most, 0 to 256 [default: 8]",
+    )
+    .value_name("N")
+    .value_parser(value_parser!(u32).range(0..=i64::from(MAX_STEPS)))
 }
 
 /// Which of the messages that are ready start first.

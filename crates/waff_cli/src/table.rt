@@ -29,7 +29,7 @@ const MACHINE: &str = "This machine:";
 const FAULTS: &str = "Faults:";
 
 /// How many commands there are.
-pub const COUNT: usize = 16;
+pub const COUNT: usize = 17;
 
 /// The command of this place in the order of the help, by groups. It is found by a `match`, and is no
 /// static, since a proof reads that byte by byte.
@@ -46,11 +46,12 @@ pub fn command(place: usize) -> Option<CommandWords> {
         8 => Some(WHERE),
         9 => Some(WAITS),
         10 => Some(WHY),
-        11 => Some(COMPARE),
-        12 => Some(RANK),
-        13 => Some(REPLAY),
-        14 => Some(RUN),
-        15 => Some(EXPLAIN),
+        11 => Some(LOCKS),
+        12 => Some(COMPARE),
+        13 => Some(RANK),
+        14 => Some(REPLAY),
+        15 => Some(RUN),
+        16 => Some(EXPLAIN),
         _ => None,
     }
 }
@@ -446,6 +447,46 @@ below which others lie; the greatest cost first:
 With --names a line for each name too, which stands behind the affinity:
   name      that of the messages
 Cells are in the order of their spaces in the hierarchy, then of their indices."
+    ),
+};
+
+const LOCKS: CommandWords = CommandWords {
+    name: "locks",
+    group: Some(LIMITING),
+    about: "Prints which spaces are worth locks, and what these would give",
+    words: &[
+        Word::File(HIERARCHY_FILE),
+        Word::File(TRACE_FILE),
+        Word::PlanWorkers(false),
+        Word::Rule,
+        Word::Shared,
+        Word::Steps,
+    ],
+    help: with_statuses!(
+        "\
+Example: waff locks hier.toml trace.csv --workers 8 --shared
+
+A line for the hierarchy as it is, one for each space that could get locks
+(one), one for each of at most N steps (then), and one with locks for all of
+them (all). Each step adds to those before it the space with which the plan is
+shortest, even where that gains nothing: two may gain only together. No step is
+promised to be the best choice in the end. N bounds the time, which grows with
+spaces times N. Its columns:
+  what      as it is, one, then or all
+  space     the one that gets locks, exclusive ones, or with --shared such that
+            messages share which only read the cell; -
+  tree      the greatest cost of messages at or above a common affinity
+  locks     the greatest cost of messages that need one lock one after another
+  order     the length of the plan without a limit on workers
+  plan      the length of the plan for K workers; - without --workers
+  speedup   the total / plan, without --workers the total / order
+  messages  how many messages use a lock
+  alone     how many locks messages use alone, each message counted by itself
+  shared    how many they share
+Taking a lock costs nothing here, and it is held for as long as its message
+runs: weigh what is gained against the locks that are taken. Messages then never
+exclude more of each other, but a plan for K workers may become longer all the
+same."
     ),
 };
 

@@ -6,9 +6,9 @@ ghost use Rattle.waff_cli.specs.Requests.{IsWithinLimits};
 ghost use Rattle.waff_cli.specs.Tasks.{IsWanted};
 ghost use Rattle.waff_cli.specs.Words as asks;
 ghost use Rattle.waff_cli.specs.Words.{IsAsked, IsPartGiven, columns_in, drawing_in};
-ghost use Rattle.waff_cli.specs.Words.{grouping_in, label_in, rows_in, rule_in, swept_in, workers_in};
+ghost use Rattle.waff_cli.specs.Words.{grouping_in, label_in, locking_in, rows_in, rule_in, swept_in, workers_in};
 
-use crate::commands::{FILE_WORDS, MAX_SWEPT, MAX_WORST};
+use crate::commands::{FILE_WORDS, MAX_STEPS, MAX_SWEPT, MAX_WORST, STEPS};
 use crate::files::INPUT;
 use crate::found::{command_in, flag_in, number_in, tick_in, word_in, words_in};
 use crate::refusal::Refusal;
@@ -21,6 +21,7 @@ use waff_draw::Part;
 use waff_figures::{Columns, Grouping, Label, Told};
 use waff_inputs::MAX_RANKED;
 use waff_list::Rule;
+use waff_model::Locking;
 use waff_model::limits::MAX_WORKERS;
 use waff_plan::Workers;
 
@@ -224,6 +225,7 @@ fn told_by_rule(
             Ok(Asked::Told(Told::Where(workers, rule, label, columns(found))))
         }
         "waits" => waits(rt, found, rule),
+        "locks" => locks(found, rule),
         _ => Err(Refusal::NoWords),
     }
 }
@@ -244,6 +246,31 @@ fn waits(rt: &impl Eprint, found: &ArgMatches<'_>, rule: Rule) -> Result<Asked, 
                 Err(Refusal::because(rt, "'--names' cannot be used with '--worst'"))
             }
         },
+    }
+}
+
+/// What the words of `locks` ask for.
+fn locks(found: &ArgMatches<'_>, rule: Rule) -> Result<Asked, Refusal>
+    requires { rule_in (rows_in found.now) ≡ Some rule }
+    ensures limits { IfOk result IsWithinLimits }
+    ensures asked { IfOk result (IsAsked (codes "locks") (rows_in found.now)) }
+{
+    let workers = workers(found)?;
+    let steps = number_in(found, "steps")?.unwrap_or(STEPS);
+    if steps > MAX_STEPS {
+        return Err(Refusal::NoWords);
+    }
+    Ok(Asked::Told(Told::Locks(workers, rule, locking(found), steps)))
+}
+
+/// The kind of locks that spaces get.
+fn locking(found: &ArgMatches<'_>) -> Locking
+    ensures { result ≡ locking_in (rows_in found.now) }
+{
+    if flag_in(found, "shared") {
+        Locking::Shared
+    } else {
+        Locking::Exclusive
     }
 }
 

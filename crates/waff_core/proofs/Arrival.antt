@@ -1,18 +1,18 @@
 -- Every state that is reached has the cells of arrival order.
 use Rattle.std.proofs.Common.{◌≡◌, ◌≢◌, ℕ, ◌-◌, ◌<◌, ◌≤◌, inl, inr, true, length, Some, refl, ap, sym, ◌∙◌, subst, arith, ⊎_elim}
 use Rattle.std.proofs.lemmas.Bool.{cases_eq, cases_order, true≢false}
-use Rattle.waff_model.specs.Tree.{AtOrAbove, Excludes}
 use Rattle.waff_model.specs.Layout.{owner_of}
-use Rattle.waff_model.proofs.TreeLemmas.{comparable}
-use Rattle.waff_assign.specs.Order.{IsOrdered, affinity_of}
+use Rattle.waff_assign.specs.Held.{ExcludeEachOther}
+use Rattle.waff_assign.specs.Order.{IsOrdered, held_of}
+use Rattle.waff_assign.proofs.Holding.{exclude_sym}
 use Rattle.waff_cells.specs.Serial.{ops_of, serial}
-use Rattle.waff_core.specs.Job.{JobValue, IsJob, IsIn, IsOwner}
+use Rattle.waff_core.specs.Job.{JobValue, IsJob, IsIn, IsOwner, RunsAbove}
 use Rattle.waff_core.specs.Machine.{Core, IsClear, phase_of}
 use Rattle.waff_core.specs.Settled.{IsLast}
 use Rattle.waff_core.specs.Laws.{AwayWithOne, BeginsAtHome, Reaches, MayRun, DrawsAreFew, NeedsAreEnough, RunningDoNotExclude, AlwaysSerial, EachCellIsSerial, AllDoneIsSerial, BeginsSettled}
 use Rattle.waff_core.specs.declared.actors.Phase.TheVariants.{Drawn, Running}
 use Rattle.waff_core.proofs.Phases.{Has, ended, ended_few}
-use Rattle.waff_core.proofs.Settling.{ordered_at_one, serial_same, clear_settled, ended_settled}
+use Rattle.waff_core.proofs.Settling.{above_cell, exclude_at_one, ordered_at_one, serial_same, clear_settled, ended_settled}
 use Rattle.waff_core.proofs.Sound.{Sound, sound_reached, seats_stay, drawn_is_in}
 use Rattle.waff_core.proofs.OrderLength.{order_is_short}
 use Rattle.waff_core.proofs.Clearings.{listed_needs_are_enough}
@@ -56,17 +56,13 @@ module _ (job : JobValue) (is : IsJob job) where
       running_apart s sound x y m n first second (record { from = m_within.from; earlier = before; to = omega arith; excludes = excludes }))
       (λ (after : n < m).
       running_apart s sound y x n m second first
-      (record { from = n_within.from; earlier = after; to = omega arith; excludes = other_way (affinity_of job.assigned m) (affinity_of job.assigned n) excludes })))
+      (record { from = n_within.from; earlier = after; to = omega arith; excludes = exclude_sym job.layout.tree (held_of job.assigned m) (held_of job.assigned n) excludes })))
       (cases_order m n)
-    where
-      other_way : (a b : ℕ) → Excludes job.layout.tree a b → Excludes job.layout.tree b a
-      other_way a b (inl above) = inr above
-      other_way a b (inr above) = inl above
 
-  -- the affinity of a message is at or above the owners of its footprint
-  pub above_owner : (m a : ℕ) → IsIn job m → IsOwner job.layout.spaces (ops_of job.ops m) a → AtOrAbove job.layout.tree (affinity_of job.assigned m) a
+  -- a message runs in an affinity at or above the owners of its footprint
+  pub above_owner : (m a : ℕ) → IsIn job m → IsOwner job.layout.spaces (ops_of job.ops m) a → RunsAbove job m a
   above_owner m a within owner =
-      subst (λ o. AtOrAbove job.layout.tree (affinity_of job.assigned m) o) owner.owned ((is.lowest m within).covers owner.cell owner.named)
+      subst (λ o. RunsAbove job m o) owner.owned (above_cell job is m within owner.cell owner.named)
 
   pub away_with_one : AwayWithOne job
   away_with_one seats s reaches a one other =
@@ -77,9 +73,8 @@ module _ (job : JobValue) (is : IsJob job) where
       let n = other.message in
       let m_within = drawn_is_in job is s.drawn m (sound.held x m (inr one.running)) in
       let n_within = drawn_is_in job is s.drawn n (sound.held y n (inr other.running)) in
-      let excludes : Excludes job.layout.tree (affinity_of job.assigned m) (affinity_of job.assigned n)
-      = comparable job.layout.tree (affinity_of job.assigned m) (affinity_of job.assigned n) a
-      (above_owner m a m_within one.owner) (above_owner n a n_within other.owner) in
+      let excludes : ExcludeEachOther job.layout.tree (held_of job.assigned m) (held_of job.assigned n)
+      = exclude_at_one job is a m n (above_owner m a m_within one.owner) (above_owner n a n_within other.owner) in
       let same_actor : x ≡ y =
       ⊎_elim {C = x ≡ y}
       (λ (same : x ≡ y). same)

@@ -2,8 +2,10 @@
 use Rattle.std.proofs.Common.{◌≡◌, ◌≢◌, ℕ, zero, suc, ◌+◌, ◌<◌, ◌≤◌, ◌⊎◌, inl, inr, true, false, List, [], ◌∷◌, length, Option, Some, None, take, slice_get, refl, sym, ◌∙◌, subst, arith, ⊎_elim}
 use Rattle.std.proofs.lemmas.Bool.{cases_eq, cases_lt, cases_Bool, true≢false}
 use Rattle.waff_model.specs.Tree.{AtOrAbove, Excludes}
-use Rattle.waff_assign.specs.Order.{IsOrdered, affinity_of}
-use Rattle.waff_core.specs.Job.{JobValue, IsJob}
+use Rattle.waff_assign.specs.Held.{ExcludeEachOther}
+use Rattle.waff_assign.specs.Order.{IsOrdered, held_of}
+use Rattle.waff_assign.proofs.Holding.{exclude_unlocked, uses_none}
+use Rattle.waff_core.specs.Job.{JobValue, IsIn, IsJob}
 use Rattle.waff_core.specs.Machine.{Core, Steps, Runs, IsClear, opening, phase_of, drawn_by, begun_by, ended_by}
 use Rattle.waff_core.specs.Refused.{IsBusy, HasNothing, IsLeastUndone, IsRefusedEvent, FailsFirst, actor_of}
 use Rattle.waff_core.specs.Laws.{RunsOrFails}
@@ -13,7 +15,7 @@ use Rattle.waff_core.specs.declared.actors.Phase.{Phase}
 use Rattle.waff_core.specs.declared.actors.Phase.TheVariants.{Free, Drawn, Running, Ended}
 use Rattle.waff_core.specs.declared.refusal.CoreError.{CoreError}
 use Rattle.waff_core.specs.declared.refusal.CoreError.TheVariants.{Busy, Nothing, NotYet}
-use Rattle.waff_core.proofs.Settling.{decide_above}
+use Rattle.waff_core.proofs.Settling.{affinity_is, decide_above}
 
 -- events from a state fail at one, which stands at this place after those before
 record FailsFrom (job : JobValue) (s : Core) (at : ℕ) (events : List Event) : Type 0 where
@@ -37,6 +39,23 @@ module _ (job : JobValue) (is : IsJob job) where
       (decide_above job.layout.tree is.layout.tree.rooted b a))
       (decide_above job.layout.tree is.layout.tree.rooted a b)
 
+  -- two messages exclude each other, or do not
+  decide_exclude : (i m : ℕ) → IsIn job i → IsIn job m
+      → ExcludeEachOther job.layout.tree (held_of job.assigned i) (held_of job.assigned m)
+      ⊎ ¬ ExcludeEachOther job.layout.tree (held_of job.assigned i) (held_of job.assigned m)
+  decide_exclude i m i_within m_within =
+      let one = affinity_is job is i i_within in
+      let other = affinity_is job is m m_within in
+      let same : length job.assigned ≡ length job.ops = is.count in
+      let to : i ≤ length job.ops = i_within.to in
+      let both = exclude_unlocked job.layout.tree (held_of job.assigned i) (held_of job.assigned m) one.0 other.0 is.layout.tree one.2 other.2 one.1 other.1
+      (uses_none job.assigned i is.unlocked i_within.from (omega arith)) in
+      ⊎_elim {C = ExcludeEachOther job.layout.tree (held_of job.assigned i) (held_of job.assigned m)
+      ⊎ ¬ ExcludeEachOther job.layout.tree (held_of job.assigned i) (held_of job.assigned m)}
+      (λ (excludes : Excludes job.layout.tree one.0 other.0). inl (both.1 excludes))
+      (λ (apart : ¬ Excludes job.layout.tree one.0 other.0). inr (λ exclude. apart (both.0 exclude)))
+      (decide_excludes one.0 other.0)
+
   -- of an earlier message: it does not exclude message m, or it is done, or it is not done
   judge : (s : Core) (m i : ℕ) → (IsOrdered job.layout.tree job.assigned i m → s.done i ≡ true)
       ⊎ (IsOrdered job.layout.tree job.assigned i m × (s.done i ≡ false))
@@ -45,21 +64,23 @@ module _ (job : JobValue) (is : IsJob job) where
       (λ (done : s.done i ≡ true). inl (λ ordered. done))
       (λ (undone : s.done i ≡ false).
       ⊎_elim {C = Verdict}
-      (λ (excludes : Excludes job.layout.tree (affinity_of job.assigned i) (affinity_of job.assigned m)).
-      ⊎_elim {C = Verdict}
       (λ (none : i < 1). inl (λ ordered. let from : 1 ≤ i = ordered.from in absurd (omega arith)))
       (λ (from : 1 ≤ i).
       ⊎_elim {C = Verdict}
       (λ (earlier : i < m).
       ⊎_elim {C = Verdict}
       (λ (past : length job.assigned < m). inl (λ ordered. let to : m ≤ length job.assigned = ordered.to in absurd (omega arith)))
-      (λ (to : m ≤ length job.assigned). inr (record { from = from; earlier = earlier; to = to; excludes = excludes }, undone))
+      (λ (to : m ≤ length job.assigned).
+      let same : length job.assigned ≡ length job.ops = is.count in
+      ⊎_elim {C = Verdict}
+      (λ (excludes : ExcludeEachOther job.layout.tree (held_of job.assigned i) (held_of job.assigned m)).
+      inr (record { from = from; earlier = earlier; to = to; excludes = excludes }, undone))
+      (λ (apart : ¬ ExcludeEachOther job.layout.tree (held_of job.assigned i) (held_of job.assigned m)). inl (λ ordered. absurd (apart ordered.excludes)))
+      (decide_exclude i m (record { from = from; to = omega arith }) (record { from = omega arith; to = omega arith })))
       (cases_lt (length job.assigned) m))
       (λ (later : m ≤ i). inl (λ ordered. let before : i < m = ordered.earlier in absurd (omega arith)))
       (cases_lt i m))
       (cases_lt i 1))
-      (λ (apart : ¬ Excludes job.layout.tree (affinity_of job.assigned i) (affinity_of job.assigned m)). inl (λ ordered. absurd (apart ordered.excludes)))
-      (decide_excludes (affinity_of job.assigned i) (affinity_of job.assigned m)))
       (cases_Bool (s.done i))
     where
       Verdict : Type 0

@@ -4,17 +4,20 @@ use Rattle.std.proofs.Common.{◌≡◌, ◌≢◌, ℕ, zero, suc, ◌+◌, ◌
 use Rattle.std.specs.Prelude.{◌==◌}
 use Rattle.std.proofs.lemmas.Bool.{cases_eq, cases_order, eq-eqb, eqb-true, or_cases, or_left, or_right, true≢false}
 use Rattle.std.proofs.lemmas.List.Elements.{All-contains, All-get_or}
+use Rattle.std.proofs.lemmas.Option.{same_Some}
 use Rattle.waff_model.specs.Cells.{cells_of}
 use Rattle.waff_model.specs.Layout.{IsCell, owner_of}
 use Rattle.waff_model.specs.Tree.{Node, parent_of, AtOrAbove, IsRooted}
 use Rattle.waff_model.specs.declared.cell.Cell.{Cell}
 use Rattle.waff_model.specs.declared.op.Op.{Op}
 use Rattle.waff_model.proofs.TreeLemmas.{reflexive, above_child, above_parent, above_root, comparable}
-use Rattle.waff_assign.specs.Order.{IsOrdered, affinity_of}
-use Rattle.waff_cells.specs.Meaning.{meaning}
+use Rattle.waff_assign.specs.Held.{ExcludeEachOther}
+use Rattle.waff_assign.specs.Order.{IsOrdered, affinity_of, held_of}
+use Rattle.waff_assign.proofs.Holding.{affinities_do, affinity_unlocked}
+use Rattle.waff_cells.specs.Meaning.{Cells, meaning}
 use Rattle.waff_cells.specs.Serial.{SameParcel, ops_of, serial}
 use Rattle.waff_cells.proofs.MeaningLaws.{meaning_agree, leaves_parcel}
-use Rattle.waff_core.specs.Job.{JobValue, IsIn, IsJob}
+use Rattle.waff_core.specs.Job.{JobValue, IsIn, IsJob, RunsAbove}
 use Rattle.waff_core.specs.Machine.{Core, IsClear, ended_by}
 use Rattle.waff_core.specs.Settled.{IsDoneAbove, IsLast, CellsAreSerial}
 use Rattle.waff_core.proofs.Listing.{cell_listed}
@@ -75,9 +78,40 @@ serial_next ops before (suc n) next cell =
     ap (λ x. meaning (ops_of ops (suc n)) (serial ops x) cell) same
 
 module _ (job : JobValue) (is : IsJob job) where
+  -- each message has an affinity
+  pub affinity_is : (n : ℕ) → IsIn job n → (a : ℕ) × (affinity_of job.assigned n ≡ Some a) × (a < length job.layout.tree)
+  affinity_is n within =
+      let to : n ≤ length job.ops = within.to in
+      let same : length job.assigned ≡ length job.ops = is.count in
+      affinity_unlocked job.layout.tree job.assigned n is.known is.unlocked within.from (omega arith)
+
+  -- it runs in one at or above another, or does not
+  pub decide_runs_above : (n a : ℕ) → IsIn job n → RunsAbove job n a ⊎ ¬ RunsAbove job n a
+  decide_runs_above n a within =
+      let own = affinity_is n within in
+      ⊎_elim {C = RunsAbove job n a ⊎ ¬ RunsAbove job n a}
+      (λ (above : AtOrAbove job.layout.tree own.0 a). inl (own.0, own.1, above))
+      (λ (apart : ¬ AtOrAbove job.layout.tree own.0 a).
+      inr (λ runs. apart (subst (λ x. AtOrAbove job.layout.tree x a) (same_Some runs.0 own.0 (sym runs.1 ∙ own.1)) runs.2)))
+      (decide_above job.layout.tree is.layout.tree.rooted own.0 a)
+
+  -- one at or above the owner of each cell of its footprint
+  pub above_cell : (n : ℕ) → IsIn job n → (cell : Cell) → Contains (cells_of (ops_of job.ops n)) cell
+      → RunsAbove job n (owner_of job.layout.spaces cell)
+  above_cell n within cell named =
+      let own = affinity_is n within in
+      (own.0, own.1, (is.lowest n own.0 within own.1).covers cell named)
+
+  -- it leaves a parcel as it was, unless it runs at or above its affinity
+  pub leaves_unless_above : (n a : ℕ) → IsIn job n → ¬ RunsAbove job n a → (cells : Cells) → SameParcel job.layout.spaces a (meaning (ops_of job.ops n) cells) cells
+  leaves_unless_above n a within apart cells =
+      let own = affinity_is n within in
+      leaves_parcel job.layout (ops_of job.ops n) own.0 a (is.lowest n own.0 within own.1).covers
+      (λ above. apart (own.0, own.1, above)) cells
+
   -- messages from `last` on that are not at or above an affinity leave its parcel as it was
   pub serial_same : (a last n : ℕ) → last ≤ n → n ≤ length job.ops
-      → ((i : ℕ) → last < i → i ≤ n → ¬ AtOrAbove job.layout.tree (affinity_of job.assigned i) a)
+      → ((i : ℕ) → last < i → i ≤ n → ¬ RunsAbove job i a)
       → SameParcel job.layout.spaces a (serial job.ops n) (serial job.ops last)
   serial_same a last zero from to apart cell is_cell owned =
       let first : zero ≡ last = omega arith in
@@ -86,28 +120,34 @@ module _ (job : JobValue) (is : IsJob job) where
       ⊎_elim {C = serial job.ops (suc n) cell ≡ serial job.ops last cell}
       (λ (same : last ≡ suc n). ap (λ x. serial job.ops x cell) (sym same))
       (λ (other : last ≢ suc n).
-      let covers = (is.lowest (suc n) (record { from = omega arith; to = to })).covers in
-      leaves_parcel job.layout (ops_of job.ops (suc n)) (affinity_of job.assigned (suc n)) a covers
-      (apart (suc n) (omega arith) (omega arith)) (serial job.ops n) cell is_cell owned
+      let within : IsIn job (suc n) = record { from = omega arith; to = to } in
+      leaves_unless_above (suc n) a within (apart (suc n) (omega arith) (omega arith)) (serial job.ops n) cell is_cell owned
       ∙ serial_same a last n (omega arith) (omega arith) (λ i after before. apart i after (omega arith)) cell is_cell owned)
       (cases_eq last (suc n))
 
-  -- two messages that are at or above one affinity are an ordered pair
-  pub ordered_at_one : (a i j : ℕ) → 1 ≤ i → i < j → j ≤ length job.ops → AtOrAbove job.layout.tree (affinity_of job.assigned i) a
-      → AtOrAbove job.layout.tree (affinity_of job.assigned j) a → IsOrdered job.layout.tree job.assigned i j
+  -- two messages that run at or above one affinity exclude each other
+  pub exclude_at_one : (a i j : ℕ) → RunsAbove job i a → RunsAbove job j a
+      → ExcludeEachOther job.layout.tree (held_of job.assigned i) (held_of job.assigned j)
+  exclude_at_one a i j one other =
+      affinities_do job.layout.tree (held_of job.assigned i) (held_of job.assigned j) one.0 other.0 one.1 other.1
+      (comparable job.layout.tree one.0 other.0 a one.2 other.2)
+
+  -- and are an ordered pair
+  pub ordered_at_one : (a i j : ℕ) → 1 ≤ i → i < j → j ≤ length job.ops → RunsAbove job i a
+      → RunsAbove job j a → IsOrdered job.layout.tree job.assigned i j
   ordered_at_one a i j from earlier to one other =
       let same : length job.assigned ≡ length job.ops = is.count in
       record {
         from = from;
         earlier = earlier;
         to = omega arith;
-        excludes = comparable job.layout.tree (affinity_of job.assigned i) (affinity_of job.assigned j) a one other;
+        excludes = exclude_at_one a i j one other;
       }
 
   module _ (s : Core) (m : ℕ) (within : IsIn job m) (clear : IsClear job s m) (undone : s.done m ≡ false)
       (closed : (n : ℕ) → s.done n ≡ true → IsClear job s n) where
     -- no later message that is at or above an affinity at or below that of message m is done
-    done_is_earlier : (a i : ℕ) → AtOrAbove job.layout.tree (affinity_of job.assigned m) a → IsDoneAbove job s a i → i < m
+    done_is_earlier : (a i : ℕ) → RunsAbove job m a → IsDoneAbove job s a i → i < m
     done_is_earlier a i above at =
         let same : length job.assigned ≡ length job.ops = is.count in
         let to : i ≤ length job.assigned = at.to in
@@ -122,7 +162,7 @@ module _ (job : JobValue) (is : IsJob job) where
 
     -- the parcels of the affinities at or below that of message m, which is clear and not done, are
     -- those of the state of arrival order before it
-    pub clear_settled : (before a : ℕ) → m ≡ before + 1 → AtOrAbove job.layout.tree (affinity_of job.assigned m) a → CellsAreSerial job s
+    pub clear_settled : (before a : ℕ) → m ≡ before + 1 → RunsAbove job m a → CellsAreSerial job s
         → SameParcel job.layout.spaces a s.cells (serial job.ops before)
     clear_settled before a next above settled cell is_cell owned =
         let last = (settled a).0 in
@@ -145,7 +185,7 @@ module _ (job : JobValue) (is : IsJob job) where
         cell is_cell owned)
 
     -- after it, they are those of the state of arrival order after it
-    pub ended_settled : (a : ℕ) → AtOrAbove job.layout.tree (affinity_of job.assigned m) a → CellsAreSerial job s
+    pub ended_settled : (a : ℕ) → RunsAbove job m a → CellsAreSerial job s
         → SameParcel job.layout.spaces a (meaning (ops_of job.ops m) s.cells) (serial job.ops m)
     ended_settled a above settled cell is_cell owned =
         let from : 1 ≤ m = within.from in
@@ -153,7 +193,7 @@ module _ (job : JobValue) (is : IsJob job) where
         let next : m ≡ before + 1 = omega arith in
         meaning_agree (ops_of job.ops m) s.cells (serial job.ops before)
         (λ named has.
-        clear_settled before (owner_of job.layout.spaces named) next ((is.lowest m within).covers named has) settled named
+        clear_settled before (owner_of job.layout.spaces named) next (above_cell m within named has) settled named
         (cell_listed job is m within named has) refl)
         cell (clear_settled before a next above settled cell is_cell owned)
         ∙ sym (serial_next job.ops before m next cell)
@@ -162,20 +202,20 @@ module _ (job : JobValue) (is : IsJob job) where
     pub settled_end : (x : ℕ) → CellsAreSerial job s → CellsAreSerial job (ended_by job s x m)
     settled_end x settled a =
         ⊎_elim {C = Goal}
-        (λ (above : AtOrAbove job.layout.tree (affinity_of job.assigned m) a). (m, last_now above, ended_settled a above settled))
-        (λ (apart : ¬ AtOrAbove job.layout.tree (affinity_of job.assigned m) a). (
+        (λ (above : RunsAbove job m a). (m, last_now above, ended_settled a above settled))
+        (λ (apart : ¬ RunsAbove job m a). (
           (settled a).0,
           last_still apart,
           λ cell is_cell owned.
-              leaves_parcel job.layout (ops_of job.ops m) (affinity_of job.assigned m) a (is.lowest m within).covers apart s.cells cell is_cell owned
+              leaves_unless_above m a within apart s.cells cell is_cell owned
               ∙ (settled a).2 cell is_cell owned,
         ))
-        (decide_above job.layout.tree is.layout.tree.rooted (affinity_of job.assigned m) a)
+        (decide_runs_above m a within)
       where
         Goal : Type 0
         Goal = (last : ℕ) × IsLast job (ended_by job s x m) a last × SameParcel job.layout.spaces a (meaning (ops_of job.ops m) s.cells) (serial job.ops last)
 
-        last_now : AtOrAbove job.layout.tree (affinity_of job.assigned m) a → IsLast job (ended_by job s x m) a m
+        last_now : RunsAbove job m a → IsLast job (ended_by job s x m) a m
         last_now above =
             let same : length job.assigned ≡ length job.ops = is.count in
             let to : m ≤ length job.ops = within.to in
@@ -190,7 +230,7 @@ module _ (job : JobValue) (is : IsJob job) where
                   (done_cases s m i at.done);
             }
 
-        last_still : ¬ AtOrAbove job.layout.tree (affinity_of job.assigned m) a → IsLast job (ended_by job s x m) a (settled a).0
+        last_still : ¬ RunsAbove job m a → IsLast job (ended_by job s x m) a (settled a).0
         last_still apart =
             let is_last = (settled a).1 in
             record {
@@ -199,7 +239,7 @@ module _ (job : JobValue) (is : IsJob job) where
                   record { from = at.from; to = at.to; done = done_kept s m (settled a).0 at.done; above = at.above };
               greatest = λ i at.
                   ⊎_elim {C = i ≤ (settled a).0}
-                  (λ (this : i ≡ m). absurd (apart (subst (λ x. AtOrAbove job.layout.tree (affinity_of job.assigned x) a) this at.above)))
+                  (λ (this : i ≡ m). absurd (apart (subst (λ x. RunsAbove job x a) this at.above)))
                   (λ (done : s.done i ≡ true). is_last.greatest i (record { from = at.from; to = at.to; done = done; above = at.above }))
                   (done_cases s m i at.done);
             }

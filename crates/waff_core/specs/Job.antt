@@ -9,17 +9,19 @@ use Rattle.waff_model.specs.declared.cell.Cell.{Cell}
 use Rattle.waff_model.specs.declared.limits.TheConstants.{MAX_OPS}
 use Rattle.waff_model.specs.declared.message.Message.{Message}
 use Rattle.waff_model.specs.declared.op.Op.{Op}
+use Rattle.waff_model.specs.Tree.{AtOrAbove}
+use Rattle.waff_assign.specs.Held.{Held, AreKnown, AreUnlocked}
 use Rattle.waff_assign.specs.Lowest.{IsInFootprint, IsLowest}
 use Rattle.waff_assign.specs.Order.{affinity_of}
 use Rattle.waff_order.specs.Needs.{AreNeeds, IsNeed}
 use Rattle.waff_cells.specs.Serial.{operations, ops_of}
 
--- what a job stands for: a layout; the operations, the affinities, the needs and the owners of a
+-- what a job stands for: a layout; the operations, what they hold, the needs and the owners of a
 -- trace's messages, in the order of arrival; and the order in which the messages are handed out
 pub record JobValue : Type 0 where
   pub layout : Hierarchy
   pub ops : List (List Op)
-  pub assigned : List ℕ
+  pub assigned : List Held
   pub needs : List (List ℕ)
   pub owners : List (List ℕ)
   pub order : List ℕ
@@ -55,16 +57,22 @@ owners_of owners n = slice_index_or owners (n - 1) []
 abbrev pub IsIn : JobValue → ℕ → Type 0
 IsIn job n = IsAmongFirst (length job.ops) n
 
+-- message n runs in an affinity at or above a
+abbrev pub RunsAbove : JobValue → ℕ → ℕ → Type 0
+RunsAbove job n a =
+    (own : ℕ) × (affinity_of job.assigned n ≡ Some own) × AtOrAbove job.layout.tree own a
+
 -- a job: messages whose cells lie in the layout, each with the lowest affinity that covers its
--- footprint and with the footprint's owners, with needs of theirs, and in an order
+-- footprint, with no locks, and with the footprint's owners, with needs of theirs, and in an order
 pub record IsJob (job : JobValue) : Type 0 where
   pub layout : IsLayout job.layout
   pub cells : All (λ ops. All (IsCell job.layout.spaces) (cells_of ops)) job.ops
   pub few : All (λ ops. length ops ≤ MAX_OPS) job.ops
   pub count : length job.assigned ≡ length job.ops
-  pub lowest : (n : ℕ) → IsIn job n
-      → IsLowest job.layout (IsInFootprint (ops_of job.ops n)) (affinity_of job.assigned n)
-  pub known : All (λ a. a < length job.layout.tree) job.assigned
+  pub lowest : (n a : ℕ) → IsIn job n → affinity_of job.assigned n ≡ Some a
+      → IsLowest job.layout (IsInFootprint (ops_of job.ops n)) a
+  pub known : AreKnown job.layout.tree job.assigned
+  pub unlocked : AreUnlocked job.assigned
   pub needs : AreNeeds job.layout.tree job.assigned job.needs
   pub owned : length job.owners ≡ length job.ops
   pub owners : (n : ℕ) → IsIn job n
@@ -72,7 +80,7 @@ pub record IsJob (job : JobValue) : Type 0 where
   pub order : IsOrder job.needs job.order
 
 -- the job of a trace's messages: what it was made of is kept
-pub record IsJobOf (layout : Hierarchy) (messages : List Message) (assigned : List ℕ)
+pub record IsJobOf (layout : Hierarchy) (messages : List Message) (assigned : List Held)
     (needs : List (List ℕ)) (order : List ℕ) (job : JobValue) : Type 0 where
   pub layout_kept : job.layout ≡ layout
   pub ops_kept : job.ops ≡ operations messages

@@ -1,10 +1,10 @@
 -- What holds of the core machine.
 use Rattle.std.specs.Prelude.{◌≡◌, ◌↔◌, ◌≢◌, ◌⊎◌, ℕ, zero, suc, ◌+◌, ◌-◌, ◌≤◌, true, List, [], ◌∷◌}
 use Rattle.std.specs.Prelude.{length, Some, take, All}
-use Rattle.waff_model.specs.Tree.{Excludes}
 use Rattle.waff_model.specs.Layout.{IsCell, owner_of}
 use Rattle.waff_model.specs.declared.cell.Cell.{Cell}
-use Rattle.waff_assign.specs.Order.{affinity_of}
+use Rattle.waff_assign.specs.Held.{ExcludeEachOther}
+use Rattle.waff_assign.specs.Order.{held_of}
 use Rattle.waff_order.specs.Needs.{needs_of}
 use Rattle.waff_cells.specs.Meaning.{meaning}
 use Rattle.waff_cells.specs.Serial.{SameParcel, ops_of, serial}
@@ -107,7 +107,7 @@ RunningDoNotExclude job =
     (seats : ℕ) (s : Core) → Reaches job seats s
     → (x y m n : ℕ) → x ≢ y
     → phase_of s.phases x ≡ Some (Running m) → phase_of s.phases y ≡ Some (Running n)
-    → ¬ Excludes job.layout.tree (affinity_of job.assigned m) (affinity_of job.assigned n)
+    → ¬ ExcludeEachOther job.layout.tree (held_of job.assigned m) (held_of job.assigned n)
 
 -- a parcel that is away is with one running message
 abbrev pub AwayWithOne : JobValue → Type 0

@@ -1,10 +1,8 @@
 -- What the cells of the core machine are: each parcel by itself is that of the state of arrival
 -- order after the last message that is done and could touch it.
 use Rattle.std.specs.Prelude.{◌≡◌, ℕ, ◌<◌, ◌≤◌, true, length}
-use Rattle.waff_model.specs.Tree.{AtOrAbove}
-use Rattle.waff_assign.specs.Order.{affinity_of}
 use Rattle.waff_cells.specs.Serial.{SameParcel, serial}
-use Rattle.waff_core.specs.Job.{JobValue}
+use Rattle.waff_core.specs.Job.{JobValue, RunsAbove}
 use Rattle.waff_core.specs.Machine.{Core}
 
 -- message i is done, and its affinity is at or above a
@@ -12,7 +10,7 @@ pub record IsDoneAbove (job : JobValue) (s : Core) (a i : ℕ) : Type 0 where
   pub from : 1 ≤ i
   pub to : i ≤ length job.assigned
   pub done : s.done i ≡ true
-  pub above : AtOrAbove job.layout.tree (affinity_of job.assigned i) a
+  pub above : RunsAbove job i a
 
 -- the greatest message that is done whose affinity is at or above a, 0 where there is none
 pub record IsLast (job : JobValue) (s : Core) (a last : ℕ) : Type 0 where

@@ -1,11 +1,12 @@
 //! Jobs.
 
-ghost use Rattle.std.specs.Prelude.{◌≡◌, ◌↔◌, ◌<◌, ◌≤◌, length, All, IsTrue, IfOk, IfErr, OnOk};
+ghost use Rattle.std.specs.Prelude.{◌≡◌, ◌↔◌, ◌<◌, ◌≤◌, length, All, false, IsTrue, IfOk, IfErr, OnOk};
 ghost use Rattle.std.specs.Prelude.{slice_get};
 ghost use Rattle.waff_model.specs.Cells.{cells_of};
-ghost use Rattle.waff_model.specs.Layout.{HasFewCells, IsCell, IsLayout};
+ghost use Rattle.waff_model.specs.Layout.{HasFewCells, IsCell, IsLayout, has_locks};
 ghost use Rattle.waff_model.specs.Messages.{IsTrace, sizes_of};
 ghost use Rattle.waff_model.specs.declared.limits.TheConstants.{MAX_MESSAGES};
+ghost use Rattle.waff_assign.specs.Held.{AreKnown};
 ghost use Rattle.waff_assign.specs.Lowest.{IsAssignment};
 ghost use Rattle.waff_assign.specs.Order.{IsOrdered};
 ghost use Rattle.waff_order.specs.Needs.{AreNeeds, needs_of};
@@ -82,7 +83,7 @@ impl Drop for Job {
 
 impl Job {
     /// The job of a trace's messages, with the assignment and the needs of that trace under that
-    /// layout, which has few cells.
+    /// layout, which has few cells and no locks.
     pub fn new(
         alloc: Global,
         layout: Layout,
@@ -94,7 +95,8 @@ impl Job {
         requires few { HasFewCells layout.spaces }
         requires fits { trace.sizes ≡ sizes_of layout.spaces }
         requires assignment { IsAssignment layout trace.messages assigned }
-        requires known { All (λ a. a < length layout.tree) assigned }
+        requires known { AreKnown layout.tree assigned }
+        requires unlocked { has_locks layout.spaces ≡ false }
         requires needs { AreNeeds layout.tree assigned needs }
         ensures kept { IfOk result
             (λ job. IsJobOf layout trace.messages assigned needs order.now job) }

@@ -1,10 +1,10 @@
 //! The core machine of a replay: jobs, events, and the state that a list of events leaves.
 //!
-//! A job is a trace with its affinities, its needs and an order in which messages are drawn. An
-//! actor draws the next message, begins it when all earlier messages that exclude it are done, and
-//! ends it. The machine is pure: no thread is in it. What the crates above rest on: whatever list
-//! of events it accepts, each cell has the value that the order of arrival gives it after the last
-//! message that is done and could touch it.
+//! A job is a trace with its affinities, its needs and an order in which messages are drawn, under
+//! a layout without locks. An actor draws the next message, begins it when all earlier messages
+//! that exclude it are done, and ends it. The machine is pure: no thread is in it. What the crates
+//! above rest on: whatever list of events it accepts, each cell has the value that the order of
+//! arrival gives it after the last message that is done and could touch it.
 //! - `job`, `order`, `refusal`: jobs, and why they are refused; `owners`, over
 //!   `owner_set`: the owners of footprints.
 //! - `laws`: what holds of the machine, whoever runs it. The board is proved over these and over
@@ -19,11 +19,13 @@
 //! draw the messages of a job in its order, begin them and end them. Its states and steps stand in
 //! `specs/Machine.antt`, why an event is refused in `specs/Refused.antt`, what the cells are in
 //! `specs/Settled.antt`, and a state is *reached* when a list of events leads to it from the
-//! opening (`specs/Laws.antt`). The laws hold for every job: messages with their lowest affinities,
-//! with needs of theirs, in an order in which each message stands once and each need before its
-//! message (`IsJob`). The meaning of messages enters these laws by two facts alone: a cell that a
-//! message does not name stays as it was, and what a message leaves in the cells that it names
-//! depends on those cells alone. No two meanings need to commute.
+//! opening (`specs/Laws.antt`). The laws hold for every job: messages with their lowest affinities
+//! and no locks, with needs of theirs, in an order in which each message stands once and each need
+//! before its message (`IsJob`). Where spaces have locks, a job is made of the layout without them
+//! (`without_locks` of a layout): the cells that it leaves are the same, those of arrival order. The
+//! meaning of messages enters these laws by two facts alone: a cell that a message does not name
+//! stays as it was, and what a message leaves in the cells that it names depends on those cells
+//! alone. No two meanings need to commute.
 //!
 //! No command calls `run_events` or asks a `CoreState`; tests do. A begin looks at the needs of its
 //! message alone; only where one is not done does it go over the earlier messages, to name the

@@ -9,4 +9,5 @@ mod PreorderLemmas
 mod RowLemmas
 mod PartLemmas
 mod ColourLemmas
+mod LooseLemmas
 mod RunLemmas

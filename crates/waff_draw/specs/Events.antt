@@ -5,13 +5,13 @@ use Rattle.std.specs.Prelude.{codes, decimal, length, slice_index_or}
 use Rattle.std.specs.List.{flat_map, join_by, range_with_len}
 use Rattle.serde_json.specs.Data.{string}
 use Rattle.serde_json.specs.Written.{compact_text}
-use Rattle.waff_model.specs.Tree.{Node, name_of}
+use Rattle.waff_model.specs.Tree.{Node}
 use Rattle.waff_model.specs.Versions.{has_clients}
 use Rattle.waff_model.specs.declared.message.Version.{Version}
 use Rattle.waff_assign.specs.Order.{affinity_name}
 use Rattle.waff_plan.specs.Work.{Await, numbers}
 use Rattle.waff_draw.specs.Kinds.{process_of, shown_row}
-use Rattle.waff_draw.specs.Lanes.{is_among, lane_of}
+use Rattle.waff_draw.specs.Lanes.{is_among, lane_label, lane_of}
 use Rattle.waff_draw.specs.Pieces.{joined, worker_name}
 use Rattle.waff_draw.specs.Scene.{Scene, after_in, client_in, lanes_in, name_in, release_in}
 use Rattle.waff_draw.specs.Scene.{shown_start, shown_ticks, work_of_scene}
@@ -99,7 +99,7 @@ event_text version event name affinity client after =
 -- the thread of the lane in a row, which is one more than the row: 1 is the uppermost
 abbrev pub affinity_thread : List Node → List Lane → ℕ → List ℕ
 affinity_thread tree lanes row =
-    thread_text 1 (row + 1) (name_of tree (slice_index_or lanes row (lane_of 0 0)).affinity)
+    thread_text 1 (row + 1) (lane_label tree (slice_index_or lanes row (lane_of 0 0)))
 
 -- the thread of a worker, below this many others
 abbrev pub worker_thread : ℕ → ℕ → List ℕ

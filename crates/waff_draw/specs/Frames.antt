@@ -1,6 +1,7 @@
 -- Where the parts of the document stand: names have the room that they need.
 use Rattle.std.specs.Prelude.{ℕ, ◌+◌, ◌-◌, ◌*◌, ◌/◌, ◌%◌, List, fold, length, max, min}
-use Rattle.waff_model.specs.Tree.{Node, name_of}
+use Rattle.waff_model.specs.Tree.{Node}
+use Rattle.waff_draw.specs.Lanes.{lane_label}
 use Rattle.waff_draw.specs.Scene.{Scene, coloured_in, lanes_in}
 use Rattle.waff_draw.specs.declared.lanes.Lane.{Lane}
 
@@ -10,7 +11,7 @@ indent depth = min depth 12 * 8 + 8
 
 -- where the name of a lane ends, with a gap behind it: a letter has eight pixels
 abbrev pub lane_end : List Node → Lane → ℕ
-lane_end tree lane = indent lane.depth + length (name_of tree lane.affinity) * 8 + 8
+lane_end tree lane = indent lane.depth + length (lane_label tree lane) * 8 + 8
 
 -- where the plan begins: right of all names of lanes, and of those of workers
 abbrev pub left_in : Scene → ℕ

@@ -1,10 +1,10 @@
 -- The rows of messages among the lanes of affinities, and among those of workers.
 use Rattle.std.specs.Prelude.{ℕ, ◌+◌, ◌-◌, ◌&&◌, Option, Some, None, if◌then◌else◌, length}
-use Rattle.std.specs.Prelude.{nat_le}
-use Rattle.waff_assign.specs.Order.{affinity_of}
+use Rattle.std.specs.Prelude.{nat_le, slice_index}
+use Rattle.waff_assign.specs.Order.{held_of, number_or}
 use Rattle.waff_plan_text.specs.Given.{row_at}
 use Rattle.waff_draw.specs.Lanes.{row_of}
-use Rattle.waff_draw.specs.Scene.{Scene, is_shown, lanes_in, workers_in}
+use Rattle.waff_draw.specs.Scene.{Scene, is_shown, lanes_in, loose_in, workers_in}
 use Rattle.waff_draw.specs.declared.lanes.LaneKind.{LaneKind}
 use Rattle.waff_draw.specs.declared.lanes.LaneKind.TheVariants.{Affinity, Worker}
 
@@ -14,9 +14,11 @@ worker_row first k None = None
 worker_row first k (Some worker) =
     if nat_le 1 worker && nat_le worker k then Some (first + worker - 1) else None
 
--- the row of message n among the lanes of a kind, if it has one there
+-- the row of message n among the lanes of a kind, if it has one there: those of no affinity stand behind one another
 abbrev pub row_in : Scene → LaneKind → ℕ → Option ℕ
-row_in scene Affinity n = Some (row_of (lanes_in scene) (affinity_of scene.instance.assigned n))
+row_in scene Affinity n =
+    Some (row_of (lanes_in scene) (number_or (length scene.instance.tree) (held_of scene.instance.assigned n))
+    + slice_index (loose_in scene).places n)
 row_in scene Worker n =
     worker_row (length (lanes_in scene)) (workers_in scene) (row_at scene.plan.rows n).worker
 

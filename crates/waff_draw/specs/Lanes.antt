@@ -1,11 +1,13 @@
 -- The lanes of a picture: affinities in preorder, those that have a message, or these and what is
 -- above them.
 use Rattle.std.specs.Prelude.{ℕ, zero, suc, ◌+◌, ◌==◌, Bool, List, [], ◌∷◌, ◌++◌, if◌then◌else◌, length}
-use Rattle.std.specs.Prelude.{map, option_map, unwrap_or}
+use Rattle.std.specs.Prelude.{codes, map, nat_lt, option_map, unwrap_or}
 use Rattle.std.specs.Cmp.Lexicographic.{slice_cmp}
 use Rattle.std.specs.List.{filter, flat_map, list_any, range_with_len}
 use Rattle.std.specs.Ordering.{is_lt, nat_cmp}
-use Rattle.waff_model.specs.Tree.{Node, parent_of}
+use Rattle.waff_model.specs.Tree.{Node, name_of, parent_of}
+use Rattle.waff_assign.specs.Held.{Held}
+use Rattle.waff_assign.specs.Order.{number_or}
 use Rattle.waff_draw.specs.declared.lanes.Lane.{Lane}
 
 -- the affinities from the root, which is left out, to b, the last so many of them
@@ -39,6 +41,11 @@ lane_of affinity depth = record { affinity = affinity; depth = depth }
 abbrev pub lane_in : List Node → ℕ → Lane
 lane_in tree a = lane_of a (length (path_of tree a))
 
+-- the name of a lane: that of its affinity, and a hyphen where its number is behind all affinities
+abbrev pub lane_label : List Node → Lane → List ℕ
+lane_label tree lane =
+    if nat_lt lane.affinity (length tree) then name_of tree lane.affinity else codes "-"
+
 -- whether a number is one of a list
 abbrev pub is_among : List ℕ → ℕ → Bool
 is_among numbers n = list_any (λ m. m == n) numbers
@@ -53,9 +60,14 @@ used_below tree assigned =
     flat_map (λ a. if is_among assigned a then way_to tree a else [])
     (range_with_len 0 (length tree))
 
+-- the numbers of the affinities of messages, and where one has none the number of the affinities, which is behind them all
+unfoldable pub affinities_of : List Node → List Held → List ℕ
+affinities_of tree assigned = map (number_or (length tree)) assigned
+
 -- the affinities that have a lane: those that have a message, or these and what is above them
-abbrev pub laned_of : List Node → List ℕ → Bool → List ℕ
-laned_of tree assigned is_tree = if is_tree then used_below tree assigned else assigned
+abbrev pub laned_of : List Node → List Held → Bool → List ℕ
+laned_of tree assigned is_tree =
+    if is_tree then used_below tree (affinities_of tree assigned) else affinities_of tree assigned
 
 -- the affinities that have a message among so many from this one on, in preorder
 abbrev pub used_from : List Node → List ℕ → ℕ → ℕ → List ℕ

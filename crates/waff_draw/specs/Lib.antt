@@ -4,6 +4,7 @@ pub mod Axis
 pub mod Xml
 pub mod Pieces
 pub mod Colours
+pub mod Loose
 pub mod Scene
 pub mod Kinds
 pub mod Bars

@@ -1,5 +1,5 @@
 -- What a picture shows: a plan that is given for an instance, or a part of it.
-use Rattle.std.specs.Prelude.{ℕ, ◌+◌, ◌-◌, ◌*◌, ◌/◌, max, min, Bool, false, true, List, []}
+use Rattle.std.specs.Prelude.{ℕ, ◌+◌, ◌-◌, ◌*◌, ◌/◌, ◌++◌, max, min, replicate, Bool, false, true, List, []}
 use Rattle.std.specs.Prelude.{Option, Some, None, length, map, nat_lt, slice_index_or}
 use Rattle.waff_model.specs.DistinctNames.{message_names}
 use Rattle.waff_assign.specs.Instance.{Instance}
@@ -10,7 +10,8 @@ use Rattle.waff_plan.specs.Timing.{start_of}
 use Rattle.waff_plan.specs.Work.{Await, Work, finish_of, length_of}
 use Rattle.waff_plan_text.specs.Given.{Given}
 use Rattle.waff_draw.specs.Colours.{coloured}
-use Rattle.waff_draw.specs.Lanes.{laned_of, lanes_of}
+use Rattle.waff_draw.specs.Lanes.{lane_of, laned_of, lanes_of}
+use Rattle.waff_draw.specs.Loose.{LooseLanes, loose_lanes}
 use Rattle.waff_draw.specs.Parts.{end_of}
 use Rattle.waff_draw.specs.declared.lanes.Lane.{Lane}
 use Rattle.waff_draw.specs.declared.parts.Part.{Part}
@@ -71,11 +72,16 @@ shown_ticks scene n = min (finish_in scene n) (end_in scene) - shown_start scene
 abbrev pub is_shown : Scene → ℕ → Bool
 is_shown scene n = nat_lt 0 (shown_ticks scene n)
 
--- the lanes of affinities; below them a plan for k workers has k more
+-- the lanes of messages that have no affinity
+abbrev pub loose_in : Scene → LooseLanes
+loose_in scene = loose_lanes scene.instance.assigned (start_in scene) (finish_in scene)
+
+-- the lanes of affinities, and behind them those; below them a plan for k workers has k more
 abbrev pub lanes_in : Scene → List Lane
 lanes_in scene =
     lanes_of scene.instance.tree
     (laned_of scene.instance.tree scene.instance.assigned scene.is_tree)
+    ++ replicate (length (loose_in scene).ends) (lane_of (length scene.instance.tree) 0)
 
 abbrev pub worker_count : Option ℕ → ℕ
 worker_count None = 0

@@ -2,12 +2,12 @@
 use Rattle.std.specs.Prelude.{ℕ, ◌+◌, ◌-◌, ◌*◌, ◌/◌, List, [], ◌++◌, if◌then◌else◌}
 use Rattle.std.specs.Prelude.{codes, length, nat_le, slice_index_or}
 use Rattle.std.specs.List.{flat_map, range_with_len}
-use Rattle.waff_model.specs.Tree.{Node, name_of}
+use Rattle.waff_model.specs.Tree.{Node}
 use Rattle.waff_plan.specs.Work.{total_of}
 use Rattle.waff_draw.specs.Axis.{line_at}
 use Rattle.waff_draw.specs.Bars.{bars_of}
 use Rattle.waff_draw.specs.Frames.{colour_left, colour_top, indent, left_in, top_in}
-use Rattle.waff_draw.specs.Lanes.{lane_of}
+use Rattle.waff_draw.specs.Lanes.{lane_label, lane_of}
 use Rattle.waff_draw.specs.Pieces.{axis_start, colour_line, grid_line, group_end, heading_line}
 use Rattle.waff_draw.specs.Pieces.{lane_line, lanes_start, plan_start, rule_line, tick_label}
 use Rattle.waff_draw.specs.Pieces.{top_start, worker_name}
@@ -58,7 +58,7 @@ lane_text row depth name = lane_line (row * 20) (indent depth) (row * 20 + 14) n
 
 -- the lane of an affinity
 abbrev pub affinity_lane_text : List Node → ℕ → Lane → List ℕ
-affinity_lane_text tree row lane = lane_text row lane.depth (xml_text (name_of tree lane.affinity))
+affinity_lane_text tree row lane = lane_text row lane.depth (xml_text (lane_label tree lane))
 
 abbrev pub affinity_lane : List Node → List Lane → ℕ → List ℕ
 affinity_lane tree lanes row = affinity_lane_text tree row (slice_index_or lanes row (lane_of 0 0))

@@ -1,18 +1,17 @@
 //! What a picture shows, made ready for drawing.
 
 ghost use Rattle.std.specs.Prelude.{◌≡◌, ◌^◌, ◌<◌, ◌≤◌, [], All, IfOk, IfSome, length};
-ghost use Rattle.std.specs.Prelude.{slice_index_or};
-ghost use Rattle.waff_model.specs.Tree.{name_of};
+ghost use Rattle.std.specs.Prelude.{◌+◌, slice_index, slice_index_or};
 ghost use Rattle.waff_assign.specs.Case.{instance_of};
-ghost use Rattle.waff_assign.specs.Order.{affinity_name, affinity_of};
+ghost use Rattle.waff_assign.specs.Order.{affinity_name, held_of, number_or};
 ghost use Rattle.waff_plan.specs.Bound.{IsWorkers};
 ghost use Rattle.waff_plan.specs.Work.{IsNumber, total_of};
 ghost use Rattle.waff_plan_text.specs.Given.{row_at};
 ghost use Rattle.waff_draw.specs.Colours.{colour_of};
 ghost use Rattle.waff_draw.specs.Kinds.{row_in, shown_row, worker_row};
-ghost use Rattle.waff_draw.specs.Lanes.{is_among, lane_of, row_of};
+ghost use Rattle.waff_draw.specs.Lanes.{is_among, lane_label, lane_of, row_of};
 ghost use Rattle.waff_draw.specs.Scene.{after_in, client_in, coloured_in, end_in, finish_in, from_in};
-ghost use Rattle.waff_draw.specs.Scene.{lanes_in, length_in};
+ghost use Rattle.waff_draw.specs.Scene.{lanes_in, length_in, loose_in};
 ghost use Rattle.waff_draw.specs.Scene.{name_in, place_in, release_in, rows_in, scene_with};
 ghost use Rattle.waff_draw.specs.Scene.{shown_start, shown_ticks, span_in, start_in};
 ghost use Rattle.waff_draw.specs.Scene.{work_of_scene, workers_in};
@@ -20,7 +19,8 @@ ghost use Rattle.waff_draw.specs.Svg.{line_in};
 
 use crate::axis::line_at;
 use crate::colours::Colours;
-use crate::lanes::{Lane, LaneKind, lanes, rows};
+use crate::lanes::{Lane, LaneKind, lanes, push_loose_lanes, rows};
+use crate::loose::{LooseLanes, loose_lanes};
 use crate::marks::marks;
 use crate::parts::Part;
 use std::alloc::{AllocError, Global};
@@ -34,8 +34,8 @@ use waff_plan_text::GivenPlan;
 /// A scene made ready for drawing: a plan that is given for the messages of a trace with their
 /// affinities, which part of it is shown, and whether the affinities above those that have a message
 /// have lanes too; the lanes of these and the row of each, the plan of
-/// its starts and its length in ticks, where the part ends, whether each message is on the chain, by
-/// its number, and the names that have a colour.
+/// its starts and its length in ticks, where the part ends, the lanes of messages that have no affinity,
+/// whether each message is on the chain, by its number, and the names that have a colour.
 pub(crate) struct Chart<'a> {
     case: Case<'a>,
     given: &'a GivenPlan,
@@ -46,6 +46,7 @@ pub(crate) struct Chart<'a> {
     ticks: u64,
     end: u128,
     rows: Vec<u64>,
+    loose: LooseLanes,
     links: Vec<bool>,
     colours: Colours<'a>,
 }
@@ -65,7 +66,7 @@ impl<'a> Model for Chart<'a> {
     ghost view = { λ c. scene_with (instance_of c.case) c.given.now c.part c.is_tree };
 
     ghost invariant = { λ c. IsChart (scene_with (instance_of c.case) c.given.now c.part c.is_tree)
-        c.lanes.items c.plan c.ticks c.end c.rows.items c.links.items c.colours };
+        c.lanes.items c.plan c.ticks c.end c.rows.items c.loose.places.items c.links.items c.colours };
 }
 
 // Written out, so that it is proved once for all that draw.
@@ -81,12 +82,14 @@ impl<'a> Drop for Chart<'a> {
             ticks: _,
             end: _,
             rows,
+            loose,
             links,
             colours,
         } = self;
         drop(lanes);
         drop(plan);
         drop(rows);
+        drop(loose);
         drop(links);
         drop(colours);
     }
@@ -106,10 +109,13 @@ impl<'a> Chart<'a> {
         ensures { IfOk result (λ chart.
             chart ≡ scene_with (instance_of case.now) given.now part is_tree) }
     {
-        let lanes = lanes(alloc, case, is_tree)?;
-        let rows = rows(alloc, case.tree.len() as usize, lanes.as_slice())?;
         let links = marks(alloc, case.trace.len() as usize + 1, given.chain())?;
         let plan = given.plan(alloc, case.trace)?;
+        let loose = loose_lanes(alloc, case, &plan)?;
+        let none = case.tree.len();
+        let mut lanes = lanes(alloc, case, is_tree)?;
+        push_loose_lanes(&mut lanes, none, loose.ends.len())?;
+        let rows = rows(alloc, none as usize + 1, lanes.as_slice())?;
         let ticks = plan.length();
         let colours = Colours::new(alloc, case.trace)?;
         Ok(Chart {
@@ -122,6 +128,7 @@ impl<'a> Chart<'a> {
             ticks,
             end: part.end(ticks),
             rows,
+            loose,
             links,
             colours,
         })
@@ -289,14 +296,25 @@ impl<'a> Chart<'a> {
         }
     }
 
-    /// The row of its affinity.
+    /// The row of its affinity, or that of the lane that it takes among those of none.
     fn affinity_row(&self, n: u32) -> u64
         requires { IsNumber (work_of_scene self.now) n }
-        ensures { result ≡ row_of (lanes_in self.now) (affinity_of self.now.instance.assigned n) }
+        ensures { result ≡ row_of (lanes_in self.now) (number_or (length self.now.instance.tree)
+            (held_of self.now.instance.assigned n)) + slice_index (loose_in self.now).places n }
     {
         let assigned = self.case.assigned;
-        let affinity = assigned.of(n);
-        self.rows[affinity.0 as usize]
+        let none = self.case.tree.len();
+        self.rows[assigned.number(n, none) as usize] + u64::from(self.place_of(n))
+    }
+
+    /// Which of the lanes of no affinity it takes, from 0.
+    fn place_of(&self, n: u32) -> u32
+        ensures { result ≡ slice_index (loose_in self.now).places n }
+    {
+        match self.loose.places.get(n as usize) {
+            Some(place) => *place,
+            None => 0,
+        }
     }
 
     /// The row of its worker, if it has one of the plan's.
@@ -314,10 +332,10 @@ impl<'a> Chart<'a> {
         }
     }
 
-    /// How many lanes of affinities there are.
+    /// How many lanes of affinities and of none there are.
     pub(crate) fn lane_count(&self) -> u64
         ensures count { result ≡ length (lanes_in self.now) }
-        ensures few { result ≤ 65536 }
+        ensures few { result ≤ 65600 }
     {
         self.lanes.len() as u64
     }
@@ -330,15 +348,19 @@ impl<'a> Chart<'a> {
         self.lanes[row as usize].depth
     }
 
-    /// The name of this affinity.
+    /// The name of its affinity, and a hyphen where it has none.
     pub(crate) fn lane_name(&self, row: u64) -> &str
         requires { row < length (lanes_in self.now) }
-        ensures { result.now ≡ name_of self.now.instance.tree
-            (slice_index_or (lanes_in self.now) row (lane_of 0 0)).affinity }
+        ensures { result.now ≡ lane_label self.now.instance.tree
+            (slice_index_or (lanes_in self.now) row (lane_of 0 0)) }
     {
         let tree = self.case.tree;
-        let _affinities = tree.len();
-        tree.name(AffinityId(self.lanes[row as usize].affinity as u16))
+        let affinity = self.lanes[row as usize].affinity;
+        if affinity < tree.len() {
+            tree.name(AffinityId(affinity as u16))
+        } else {
+            "-"
+        }
     }
 
     /// The number of workers, if the plan has workers.

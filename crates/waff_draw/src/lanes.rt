@@ -2,11 +2,11 @@
 //! above them.
 
 ghost use Rattle.std.specs.Prelude.{◌≡◌, ◌^◌, ◌<◌, ◌≤◌, ℕ, All, IfOk, List, length, map};
-ghost use Rattle.std.specs.Prelude.{slice_index, false, slice_index_or, ◌||◌};
+ghost use Rattle.std.specs.Prelude.{slice_index, false, slice_index_or, ◌||◌, ◌+◌, ◌++◌, OnOk, replicate};
 ghost use Rattle.std.specs.BTreeMap.{values};
 ghost use Rattle.std.specs.List.{range_with_len};
-ghost use Rattle.waff_draw.specs.Lanes.{is_among, laned_of, lanes_of, path_of, row_of};
-ghost use Rattle.waff_draw.specs.Lanes.{used_below, way_to};
+ghost use Rattle.waff_draw.specs.Lanes.{affinities_of, is_among, lane_of, laned_of, lanes_of};
+ghost use Rattle.waff_draw.specs.Lanes.{path_of, row_of, used_below, way_to};
 
 use crate::marks::marks;
 use std::alloc::{AllocError, Global};
@@ -42,9 +42,25 @@ pub(crate) fn lanes(alloc: Global, case: &Case<'_>, is_tree: bool) -> Result<Vec
     lanes.into_values().collect(alloc)
 }
 
+/// Appends so many lanes of messages that have no affinity; this number stands for none.
+pub(crate) fn push_loose_lanes(
+    lanes: &mut Vec<Lane>,
+    none: u32,
+    count: usize,
+) -> Result<(), AllocError>
+    requires few { length lanes.old.items + count < 2 ^ 32 }
+    ensures { OnOk result (lanes.new.items ≡ lanes.old.items ++ replicate count (lane_of none 0)) }
+{
+    let lane = Lane {
+        affinity: none,
+        depth: 0,
+    };
+    lanes.resize(lanes.len() + count, lane)
+}
+
 /// For each affinity whether it has a lane.
 fn laned(alloc: Global, case: &Case<'_>, is_tree: bool) -> Result<Vec<bool>, AllocError>
-    ensures count { IfOk result (λ laned. length laned.items ≡ length case.now.tree.now) }
+    ensures count { IfOk result (λ laned. length case.now.tree.now ≤ length laned.items) }
     ensures each { IfOk result (λ laned. (a : ℕ) → a < length case.now.tree.now
         → slice_index_or laned.items a false
         ≡ is_among (laned_of case.now.tree.now case.now.assigned.now is_tree) a) }
@@ -59,7 +75,7 @@ fn laned(alloc: Global, case: &Case<'_>, is_tree: bool) -> Result<Vec<bool>, All
 
 /// For each affinity whether it or one below it is used.
 fn used_below(alloc: Global, tree: &Tree, used: &[bool]) -> Result<Vec<bool>, AllocError>
-    requires { length used.now ≡ length tree.now }
+    requires { length tree.now ≤ length used.now }
     ensures count { IfOk result (λ marks. length marks.items ≡ length tree.now) }
     ensures each { IfOk result (λ marks. (assigned : List ℕ)
         → ((a : ℕ) → a < length tree.now → slice_index_or used.now a false ≡ is_among assigned a)
@@ -93,17 +109,19 @@ fn mark_way(tree: &Tree, marks: &mut [bool], affinity: AffinityId)
 
 /// For each affinity whether a message has it.
 fn used(alloc: Global, case: &Case<'_>) -> Result<Vec<bool>, AllocError>
-    ensures count { IfOk result (λ used. length used.items ≡ length case.now.tree.now) }
+    ensures count { IfOk result (λ used. length case.now.tree.now ≤ length used.items) }
     ensures each { IfOk result (λ used. (a : ℕ) → a < length case.now.tree.now
-        → slice_index_or used.items a false ≡ is_among case.now.assigned.now a) }
+        → slice_index_or used.items a false
+        ≡ is_among (affinities_of case.now.tree.now case.now.assigned.now) a) }
 {
-    let affinities = case.assigned.numbers(alloc)?;
-    marks(alloc, case.tree.len() as usize, affinities.as_slice())
+    let none = case.tree.len();
+    let affinities = case.assigned.numbers(alloc, none)?;
+    marks(alloc, none as usize + 1, affinities.as_slice())
 }
 
 /// The lanes of the affinities that are used, each at its place in preorder.
 fn by_place(alloc: Global, tree: &Tree, used: &[bool]) -> Result<BTreeMap<u16, Lane>, AllocError>
-    requires { length used.now ≡ length tree.now }
+    requires { length tree.now ≤ length used.now }
     ensures { IfOk result (λ lanes. (assigned : List ℕ)
         → ((a : ℕ) → a < length tree.now → slice_index_or used.now a false ≡ is_among assigned a)
         → values lanes ≡ lanes_of tree.now assigned) }

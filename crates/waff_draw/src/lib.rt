@@ -1,9 +1,10 @@
 //! A picture of a plan, whoever made it, or of a part of it: a lane for each affinity and each
-//! worker, a bar for each message.
+//! worker, a bar for each message. Messages that have no affinity have lanes of their own.
 //!
 //! - `lanes`: the affinities that have a message, or these and what is above them, in preorder;
 //!   `marks`: which numbers a list has; `laws`: each has one lane, where its bars are, and the lanes
 //!   are in preorder; which ticks are shown, and where the axis has lines.
+//! - `loose`: the lanes of messages that have no affinity, named `-`.
 //! - `parts`: the ticks that are shown; `chart`: what a picture shows, made ready for drawing.
 //! - `colours`: which names have a colour; `axis`: round numbers of ticks; `xml`: names in a document of markup.
 //! - `svg`: the text of the picture; `bars`: its bars; `runs`: the outlines of the chain; `frame`: where
@@ -28,6 +29,7 @@ mod events;
 mod frame;
 mod lanes;
 mod laws;
+mod loose;
 mod marks;
 mod parts;
 mod pieces;

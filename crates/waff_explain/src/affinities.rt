@@ -1,6 +1,6 @@
 //! A tree of affinities that is refused.
 
-use crate::document::{push_row, rows, text_at, text_of};
+use crate::document::{may_lock, push_row, rows, text_at, text_of};
 use crate::fields::{push_no_name, push_too_many};
 use crate::named::Named;
 use crate::say;
@@ -13,7 +13,7 @@ use waff_model::{AffinityId, TreeError, is_name};
 pub(crate) fn push_no_tree(words: &mut Words, document: &Value, error: TreeError) {
     let affinities = rows(document, "affinity");
     let named = Named::of(words, affinities, "name");
-    match first_refused(&named, affinities, error) {
+    match first_refused(&named, affinities, may_lock(document), error) {
         Some(number) => push_error(words, &named, affinities, number, error),
         None => {
             say!(words; Where: "hierarchy, affinity");
@@ -24,16 +24,30 @@ pub(crate) fn push_no_tree(words: &mut Words, document: &Value, error: TreeError
 }
 
 /// The first affinity that has the error.
-fn first_refused(named: &Named<'_>, affinities: &[Value], error: TreeError) -> Option<usize> {
+fn first_refused(
+    named: &Named<'_>,
+    affinities: &[Value],
+    may_lock: bool,
+    error: TreeError,
+) -> Option<usize> {
     let mut rows = affinities.iter().enumerate();
-    rows.position(|(number, row)| has_error(named, number, row, error))
+    rows.position(|(number, row)| has_error(named, number, row, may_lock, error))
 }
 
 /// Whether the affinity of a row has the error; those before it have none.
-fn has_error(named: &Named<'_>, number: usize, row: &Value, error: TreeError) -> bool {
+fn has_error(
+    named: &Named<'_>,
+    number: usize,
+    row: &Value,
+    may_lock: bool,
+    error: TreeError,
+) -> bool {
     let has_parent = row.get("parent").is_some();
     match error {
-        TreeError::Name => !is_name(text_at(row, "name")),
+        TreeError::Name => {
+            let name = text_at(row, "name");
+            !is_name(name) || (may_lock && name == "-")
+        }
         TreeError::Twice => named.has_before(number, text_at(row, "name")),
         TreeError::SecondRoot => number > 0 && !has_parent,
         TreeError::ParentUnknown => {
@@ -56,6 +70,10 @@ fn push_error(
     push_row(words, "affinity", affinities, number);
     let name = text_of(affinities, number, "name");
     match error {
+        TreeError::Name if name == "-" => {
+            say!(words; Found: "the name `-`");
+            say!(words; Wanted: "another name, as `-` stands for no affinity in format 3");
+        }
         TreeError::Name => push_no_name(words, "name", name),
         TreeError::Twice => push_twice(words, named, name),
         TreeError::SecondRoot => {

@@ -27,6 +27,14 @@ pub(crate) fn text_of<'a>(tables: &'a [Value], number: usize, key: &str) -> &'a 
     tables.get(number).map_or("", |row| text_at(row, key))
 }
 
+/// Whether the spaces of the document may have locks.
+pub(crate) fn may_lock(document: &Value) -> bool {
+    document
+        .get("format")
+        .and_then(|format| format.as_integer())
+        == Some(3)
+}
+
 /// Appends where the table of this number stands: of which kind it is, its number from 0, and its
 /// name.
 pub(crate) fn push_row(words: &mut Words, kind: &str, tables: &[Value], number: usize) {
@@ -104,6 +112,7 @@ pub(crate) fn push_no_key(words: &mut Words, document: &Value, key: Key) {
         Key::Space => push_misfit(words, document, "map", "space", Shape::Text),
         Key::Unit => push_misfit(words, document, "map", "unit", Shape::Integer),
         Key::To => push_misfit(words, document, "map", "to", Shape::Texts),
+        Key::Locks => push_misfit(words, document, "space", "locks", Shape::TextOrNone),
     }
 }
 

@@ -8,8 +8,8 @@ use crate::say;
 use crate::walk::push_line;
 use crate::words::Words;
 use std::alloc::{AllocError, Global};
-use waff_assign::Case;
-use waff_model::{AffinityId, Await, Message, Tree, Version};
+use waff_assign::{Case, LockUse, exclude_each_other, footprint};
+use waff_model::{AffinityId, Await, Cell, Layout, Message, Tree, Version};
 use waff_plan::{Plan, Totals};
 use waff_plan_text::{GivenPlan, Row};
 
@@ -71,7 +71,7 @@ impl<'a> Hearing<'a> {
         requires other { IsAmongFirst (length self.now.case.trace.now.messages) other }
     {
         let (tree, assigned) = (self.case.tree, self.case.assigned);
-        tree.excludes(assigned.of(one), assigned.of(other))
+        exclude_each_other(tree, assigned, one, other)
     }
 
     /// Appends where the row of a message stands, and what there is to tell of the message.
@@ -83,14 +83,92 @@ impl<'a> Hearing<'a> {
         heard.push_facts(words, self.version());
     }
 
-    /// Appends why the affinities of two messages exclude each other.
-    pub(crate) fn push_exclusion(&self, words: &mut Words, one: u32, other: u32)
+    /// Appends why two messages exclude each other: by their affinities, as one of them runs in the root, or
+    /// by a lock.
+    pub(crate) fn push_exclusion(&self, words: &mut Words, layout: &Layout, one: u32, other: u32)
+        requires one { IsAmongFirst (length self.now.case.trace.now.messages) one }
+        requires other { IsAmongFirst (length self.now.case.trace.now.messages) other }
+    {
+        let (tree, assigned) = (self.case.tree, self.case.assigned);
+        match (assigned.affinity(one), assigned.affinity(other)) {
+            (Some(first), Some(second)) if tree.excludes(first, second) => {
+                push_why(words, tree, first, second);
+            }
+            (Some(first), _) if first == tree.root() => push_alone(words, tree, one, first),
+            (_, Some(second)) if second == tree.root() => push_alone(words, tree, other, second),
+            _ => self.push_lock(words, layout, one, other),
+        }
+    }
+
+    /// Appends the first cell whose lock both messages use, one of them alone.
+    fn push_lock(&self, words: &mut Words, layout: &Layout, one: u32, other: u32)
         requires one { IsAmongFirst (length self.now.case.trace.now.messages) one }
         requires other { IsAmongFirst (length self.now.case.trace.now.messages) other }
     {
         let assigned = self.case.assigned;
-        push_why(words, self.case.tree, assigned.of(one), assigned.of(other));
+        let Some(place) = first_contended(assigned.uses(one), assigned.uses(other)) else {
+            return;
+        };
+        match self.locked_cell(words.alloc(), layout, one, place) {
+            Ok(Some(cell)) if layout.has(cell) => {
+                let name = layout.space_name(cell.space as u32);
+                say!(words; Why: "both use the lock of {}:{}, at least one of them alone",
+                    name, cell.index);
+            }
+            Ok(_) => {}
+            Err(_) => words.refuse(),
+        }
     }
+
+    /// The cell at this place, from 0, among those with locks that the message names, in order: the uses of locks
+    /// by a message are in the same order.
+    fn locked_cell(
+        &self,
+        alloc: Global,
+        layout: &Layout,
+        message: u32,
+        place: usize,
+    ) -> Result<Option<Cell>, AllocError>
+        requires { IsAmongFirst (length self.now.case.trace.now.messages) message }
+    {
+        let cells = footprint(alloc, self.case.trace, message)?;
+        let locked = cells
+            .iter()
+            .copied()
+            .filter(|cell| layout.has(*cell) && layout.locking(*cell).are_some())
+            .nth(place);
+        drop(cells);
+        Ok(locked)
+    }
+}
+
+/// The place, from 0, of the first of these uses with one of the others on the same lock, one of the two alone. Both
+/// are by the numbers of their locks.
+fn first_contended(uses: &[LockUse], others: &[LockUse]) -> Option<usize> {
+    let (mut place, mut other): (usize, usize) = (0, 0);
+    for _ in 0..uses.len().saturating_add(others.len()) {
+        let (Some(used), Some(theirs)) = (uses.get(place), others.get(other)) else {
+            return None;
+        };
+        if used.lock == theirs.lock && (used.alone || theirs.alone) {
+            return Some(place);
+        }
+        if used.lock <= theirs.lock {
+            place = place.saturating_add(1);
+        } else {
+            other = other.saturating_add(1);
+        }
+    }
+    None
+}
+
+/// Appends that a message runs in the root, which excludes all others.
+fn push_alone(words: &mut Words, tree: &Tree, message: u32, root: AffinityId)
+    requires root { root.0 < length tree.now }
+{
+    let name = tree.name(root);
+    say!(words; Why: "message {} runs in {}, the root, and what runs there runs alone",
+        message, name);
 }
 
 impl<'a> Heard<'a> {

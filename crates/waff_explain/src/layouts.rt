@@ -1,6 +1,6 @@
 //! Spaces and maps that are refused.
 
-use crate::document::{push_row, rows, text_at, text_of};
+use crate::document::{may_lock, push_row, rows, text_at, text_of};
 use crate::fields::push_no_name;
 use crate::named::Named;
 use crate::say;
@@ -19,7 +19,7 @@ pub(crate) fn push_no_layout(words: &mut Words, document: &Value, error: LayoutE
         LayoutError::Space => push_no_space(words, spaces, maps),
         LayoutError::Size => push_no_integer(words, spaces, "space", "size", format.max_size()),
         LayoutError::SpaceTwice => push_twice(words, spaces, "space", "name"),
-        LayoutError::NoMap => push_no_map(words, spaces, maps),
+        LayoutError::NoMap => push_no_map(words, spaces, maps, may_lock(document)),
         LayoutError::MapTwice => push_twice(words, maps, "map", "space"),
         LayoutError::Unit => push_no_integer(words, maps, "map", "unit", format.max_unit()),
         LayoutError::To => push_no_owners(words, rows(document, "affinity"), maps),
@@ -59,13 +59,21 @@ fn push_no_space_of(words: &mut Words, spaces: &[Value], maps: &[Value]) {
     }
 }
 
-/// Appends which space has no map.
-fn push_no_map(words: &mut Words, spaces: &[Value], maps: &[Value]) {
+/// Appends which space has no map. One with locks needs none.
+fn push_no_map(words: &mut Words, spaces: &[Value], maps: &[Value], may_lock: bool) {
     let mapped = Named::of(words, maps, "space");
-    if let Some(number) = mapped.first_stranger(spaces, "name") {
+    let lacking = spaces.iter().position(|row| {
+        let has_locks = may_lock && row.get("locks").is_some();
+        !has_locks && mapped.place_of(text_at(row, "name")).is_none()
+    });
+    if let Some(number) = lacking {
         push_row(words, "space", spaces, number);
         say!(words; Found: "no map of the space");
-        say!(words; Wanted: "one map of each space");
+        if may_lock {
+            say!(words; Wanted: "one map of each space that has no locks");
+        } else {
+            say!(words; Wanted: "one map of each space");
+        }
     }
 }
 

@@ -4,7 +4,7 @@
 ghost use Rattle.std.specs.Prelude.{IfOk, string_bytes};
 ghost use Rattle.waff_explain.specs.Lines.{AreHeadedLines};
 
-use crate::document::rows;
+use crate::document::{may_lock, rows};
 use crate::say;
 use crate::words::Words;
 use std::alloc::{AllocError, Global};
@@ -38,13 +38,38 @@ fn push_near(words: &mut Words, document: &Value) {
     }
     push_no_format(words, document);
     push_near_of(words, document, "affinity", &["name", "parent"]);
-    push_near_of(words, document, "space", &["name", "size"]);
+    if may_lock(document) {
+        push_near_of(words, document, "space", &["name", "size", "locks"]);
+    } else {
+        push_near_of(words, document, "space", &["name", "size"]);
+        push_no_locks(words, document);
+    }
     push_near_of(words, document, "map", &["space", "unit", "to"]);
 }
 
-/// Appends what stands in a hierarchy in place of a format that there is.
+/// Appends which space has the key of locks in a format without them.
+fn push_no_locks(words: &mut Words, document: &Value) {
+    if let Some(number) = first_with_locks(document) {
+        say!(words; Found: "the key `locks` of space {}, which counts for nothing: locks need \
+            `format = 3` at the top", number);
+    }
+}
+
+/// The first space that has the key of locks.
+fn first_with_locks(document: &Value) -> Option<usize> {
+    let spaces = rows(document, "space");
+    spaces.iter().position(|row| row.get("locks").is_some())
+}
+
+/// Appends what stands in a hierarchy in place of a format that there is, or that format 3 was none once.
 fn push_no_format(words: &mut Words, document: &Value) {
     match document.get("format") {
+        Some(_) if may_lock(document) => {
+            if first_with_locks(document).is_none() {
+                say!(words; Found: "format: the integer 3, and no space with `locks`: before there \
+                    were locks such a file was read as one of format 1");
+            }
+        }
         Some(value) => push_other_format(words, value),
         None => {
             if document.get("version").is_some() {
@@ -55,21 +80,21 @@ fn push_no_format(words: &mut Words, document: &Value) {
     }
 }
 
-/// Appends that this tells no format, where it is neither 1 nor 2.
+/// Appends that this tells no format, where it is neither 1 nor 2. Format 3 is told of apart.
 fn push_other_format(words: &mut Words, value: &Value) {
     match (value.as_integer(), value.as_str()) {
         (Some(number), _) if number == 1 || number == 2 => {}
         (Some(number), _) => {
-            say!(words; Found: "format: the integer {}, which counts for nothing: formats are 1 and 2",
+            say!(words; Found: "format: the integer {}, which counts for nothing: formats are 1 to 3",
                 number);
         }
         (None, Some(text)) => {
-            say!(words; Found: "format: the text `{}`, which counts for nothing: formats are 1 and 2",
+            say!(words; Found: "format: the text `{}`, which counts for nothing: formats are 1 to 3",
                 text.as_bytes());
         }
         (None, None) => {
             say!(words; Found: "format: a value of the type {}, which counts for nothing: formats are \
-                1 and 2", value.type_str());
+                1 to 3", value.type_str());
         }
     }
 }

@@ -15,7 +15,7 @@ use crate::words::Words;
 use std::alloc::{AllocError, Global};
 use waff_assign::Case;
 use waff_check::Verdict;
-use waff_model::{Await, Layout, Version};
+use waff_model::{Await, Layout};
 use waff_plan::Totals;
 use waff_plan_text::GivenPlan;
 
@@ -52,7 +52,7 @@ fn push_finding(words: &mut Words, layout: &Layout, hearing: &Hearing<'_>, verdi
 {
     let _messages = hearing.case.trace.len();
     match verdict {
-        Verdict::Overlap { first, second } => push_overlap(words, hearing, first, second),
+        Verdict::Overlap { first, second } => push_overlap(words, layout, hearing, first, second),
         Verdict::TooManyAt { tick } => push_crowd(words, hearing, tick),
         Verdict::Worker { message } => push_worker(words, hearing, message),
         Verdict::Affinity { message } => push_affinity(words, hearing, message),
@@ -72,7 +72,7 @@ fn push_finding(words: &mut Words, layout: &Layout, hearing: &Hearing<'_>, verdi
 /// Appends two messages that overlap, and why they must not: the second starts before the first, which
 /// comes earlier in the trace, has finished, or where messages have clients both run at a common tick,
 /// whichever starts first.
-fn push_overlap(words: &mut Words, hearing: &Hearing<'_>, first: u32, second: u32)
+fn push_overlap(words: &mut Words, layout: &Layout, hearing: &Hearing<'_>, first: u32, second: u32)
     requires first { IsAmongFirst (length hearing.now.case.trace.now.messages) first }
     requires second { IsAmongFirst (length hearing.now.case.trace.now.messages) second }
 {
@@ -87,7 +87,7 @@ fn push_overlap(words: &mut Words, hearing: &Hearing<'_>, first: u32, second: u3
         say!(words; Found: "message {} starts at {}, before message {} has finished at {}",
             second, other.row.start, first, one.end());
     }
-    hearing.push_exclusion(words, first, second);
+    hearing.push_exclusion(words, layout, first, second);
     if has_clients {
         say!(words; Wanted: "one of messages {} and {} starts when the other has finished",
             first, second);
@@ -165,8 +165,16 @@ fn push_affinity(words: &mut Words, hearing: &Hearing<'_>, message: u32)
     let heard = hearing.message(message);
     hearing.push_message(words, &heard);
     say!(words; Found: "the affinity {}", heard.row.affinity.as_str());
-    say!(words; Wanted: "the affinity {}, the lowest one that covers the cells of message {}",
-        heard.affinity, message);
+    let assigned = hearing.case.assigned;
+    if assigned.affinity(message).is_none() {
+        say!(words; Wanted: "`-`, as all cells of message {} have locks", message);
+    } else if assigned.is_unlocked() {
+        say!(words; Wanted: "the affinity {}, the lowest one that covers the cells of message {}",
+            heard.affinity, message);
+    } else {
+        say!(words; Wanted: "the affinity {}, the lowest one that covers those cells of message {} \
+            that have no locks", heard.affinity, message);
+    }
 }
 
 fn push_finish(words: &mut Words, hearing: &Hearing<'_>, message: u32)
@@ -277,29 +285,34 @@ fn push_no_link(words: &mut Words, hearing: &Hearing<'_>, place: u64)
         Some(verb) => say!(words; Found:
             "message {} at place {} of the chain, which does not {} after message {}",
             message, place, verb, before),
-        None => say!(words; Found:
+        None if hearing.case.assigned.is_unlocked() => say!(words; Found:
             "message {} at place {} of the chain, whose affinity and that of message {} do not \
              exclude each other",
             message, place, before),
+        None => say!(words; Found:
+            "message {} at place {} of the chain, which and message {} do not exclude each other",
+            message, place, before),
     }
-    push_wanted_link(words, version, before);
+    push_wanted_link(words, hearing, before);
 }
 
 /// Appends what should stand behind this message of a chain.
-fn push_wanted_link(words: &mut Words, version: Version, before: u32) {
+fn push_wanted_link(words: &mut Words, hearing: &Hearing<'_>, before: u32) {
+    let version = hearing.version();
+    let exclusion = if hearing.case.assigned.is_unlocked() {
+        "their affinities exclude each other"
+    } else {
+        "they exclude each other"
+    };
     if version.has_after() {
-        say!(words; Wanted:
-            "a message that starts after message {}, their affinities exclude each other, or one \
-             that awaits it",
-            before);
+        say!(words; Wanted: "a message that starts after message {}, {}, or one that awaits it",
+            before, exclusion);
     } else if version.has_clients() {
         say!(words; Wanted:
-            "a message that starts after message {}, their affinities exclude each other, or the \
-             next one of its client",
-            before);
+            "a message that starts after message {}, {}, or the next one of its client",
+            before, exclusion);
     } else {
-        say!(words; Wanted: "a message behind message {}, their affinities exclude each other",
-            before);
+        say!(words; Wanted: "a message behind message {}, {}", before, exclusion);
     }
 }
 

@@ -19,7 +19,7 @@ pub enum Head {
     Message(u32),
     /// What stands there.
     Found,
-    /// Why two affinities exclude each other.
+    /// Why two messages exclude each other.
     Why,
     /// What should stand there.
     Wanted,

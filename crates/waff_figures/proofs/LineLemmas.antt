@@ -1,6 +1,7 @@
 -- Texts line by line.
 use Rattle.std.proofs.Common.{◌≡◌, ℕ, ◌+◌, List, [], ◌∷◌, ◌++◌, map, sym, ◌∙◌, ap, arith, refl, append_assoc}
 use Rattle.std.specs.List.{join_with_byte, range_with_len}
+use Rattle.std.proofs.lemmas.Grind.{flat_map-append}
 use Rattle.std.proofs.lemmas.List.{flat_map_more}
 use Rattle.std.proofs.lemmas.List.FromFn.{map-range_with_len_more}
 use Rattle.waff_plan_text.specs.Lines.{line_text, text_of}
@@ -26,6 +27,15 @@ pub three_parts : (first : List (List ℕ)) (rows : List (List (List ℕ))) (las
 three_parts first rows last one two three h k l =
     l ∙ ap (λ bs. bs ++ line_text last) (k ∙ ap (λ bs. bs ++ text_of rows) h)
     ∙ flat_map_more line_text (line_text first) rows last
+
+-- a first line, rows, and more rows
+pub first_and_rows : (first : List (List ℕ)) (rows more : List (List (List ℕ))) (one two three : List ℕ)
+    → one ≡ line_text first → two ≡ one ++ text_of rows → three ≡ two ++ text_of more
+    → three ≡ text_of (first ∷ rows ++ more)
+first_and_rows first rows more one two three h k l =
+    l ∙ ap (λ bs. bs ++ text_of more) (k ∙ ap (λ bs. bs ++ text_of rows) h)
+    ∙ append_assoc (line_text first) (text_of rows) (text_of more)
+    ∙ ap (λ bs. line_text first ++ bs) (sym (flat_map-append line_text rows more))
 
 -- a line whose first field stands before others
 field_first : (x y : List ℕ) (ys : List (List ℕ)) → line_text (x ∷ y ∷ ys) ≡ (x ++ 44 ∷ []) ++ line_text (y ∷ ys)

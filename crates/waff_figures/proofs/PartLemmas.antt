@@ -1,5 +1,5 @@
 -- Figures of parts of the messages: they add up, are those of the plan where the part is all, and are the same for the same starts.
-use Rattle.std.proofs.Common.{◌≡◌, ℕ, ◌-◌, ◌<◌, Bool, true, cond, List, All, length, get_or, map, sum_by, arith, sym, ◌∙◌, ap, subst}
+use Rattle.std.proofs.Common.{◌≡◌, ℕ, ◌+◌, ◌-◌, ◌<◌, Bool, true, cond, List, All, length, get_or, map, sum_by, arith, sym, ◌∙◌, ap, subst}
 use Rattle.std.specs.List.{range_with_len}
 use Rattle.std.proofs.lemmas.List.{get_or-map, get_or_default, length-map, same_lists}
 use Rattle.std.proofs.lemmas.List.Elements.{All-filter}
@@ -7,12 +7,12 @@ use Rattle.std.proofs.lemmas.List.FromFn.{get_or-range_with_len, length-range_wi
 use Rattle.std.proofs.lemmas.List.Sums.{count_by-le-length, length-filter}
 use Rattle.waff_model.specs.Tree.{Node}
 use Rattle.waff_model.specs.Unique.{AtMostOne}
-use Rattle.waff_assign.specs.Order.{affinity_of}
+use Rattle.waff_assign.specs.Held.{AreKnown, Held}
 use Rattle.waff_plan.specs.Chain.{IsAmongFirst, IsListed}
 use Rattle.waff_plan.specs.Obeys.{AwaitsEarlier}
 use Rattle.waff_plan.specs.Unique.{AreSame}
 use Rattle.waff_plan.specs.Work.{Work, greatest, issue_of, numbers}
-use Rattle.waff_figures.specs.ByAffinity.{runs_in}
+use Rattle.waff_figures.specs.ByAffinity.{affinity_number, affinity_numbers, runs_in}
 use Rattle.waff_figures.specs.ByName.{first_messages, has_label}
 use Rattle.waff_figures.specs.Figures.{latencies_among, latencies_of, latency_of, waits_among}
 use Rattle.waff_figures.specs.PartLaws.{AffinityWaitsAddUp, AllAreWhole, LabelWaitsAddUp}
@@ -22,7 +22,7 @@ use Rattle.waff_figures.specs.declared.figures.Figures.{Figures}
 use Rattle.waff_figures.specs.declared.grouping.Columns.{Columns}
 use Rattle.waff_figures.specs.declared.grouping.Columns.TheVariants.{Costs, Figures as WithFigures}
 use Rattle.waff_figures.specs.declared.parts.PartFigures.{PartFigures}
-use Rattle.waff_figures.proofs.AddingUp.{affinity_within}
+use Rattle.waff_figures.proofs.AddingUp.{number_within}
 use Rattle.waff_figures.proofs.FigureLaws.{issued_same, latency_same}
 use Rattle.waff_figures.proofs.GroupLemmas.{filtered_sum, sum_map}
 use Rattle.waff_figures.proofs.Lists.{map_same}
@@ -65,11 +65,11 @@ part_waits work start belongs keys parts are =
     ∙ filtered_sum (belongs (get_or keys k 0)) wait (numbers work) ∙ sym (get_or-map term keys k 0 d inside)) in
     sym (sum_map (λ n. n) waits parts) ∙ ap (sum_by (λ n. n)) same ∙ sum_map (λ n. n) term keys
 
-pub affinity_waits_add_up : (tree : List Node) (assigned : List ℕ) (work : Work) → 0 < length tree → All (λ a. a < length tree) assigned
+pub affinity_waits_add_up : (tree : List Node) (assigned : List Held) (work : Work) → AreKnown tree assigned
     → AffinityWaitsAddUp tree assigned work
-affinity_waits_add_up tree assigned work some known start parts are =
-    part_waits work start (runs_in assigned) (range_with_len 0 (length tree)) parts are
-    ∙ sum_of_parts (affinity_of assigned) (λ m. start m - issue_of work start m) (λ c. true) (length tree) (affinity_within tree assigned some known) (numbers work)
+affinity_waits_add_up tree assigned work known start parts are =
+    part_waits work start (runs_in tree assigned) (affinity_numbers tree) parts are
+    ∙ sum_of_parts (affinity_number tree assigned) (λ m. start m - issue_of work start m) (λ c. true) (length tree + 1) (number_within tree assigned known) (numbers work)
 
 pub label_waits_add_up : (labels : List (List ℕ)) (work : Work) → length labels ≡ work.count → LabelWaitsAddUp labels work
 label_waits_add_up labels work long start parts are =

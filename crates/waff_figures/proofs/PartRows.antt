@@ -4,6 +4,8 @@ use Rattle.std.specs.List.{range_with_len}
 use Rattle.std.proofs.lemmas.List.{get_or-map, length-map}
 use Rattle.std.proofs.lemmas.List.FromFn.{get_or-range_with_len, length-range_with_len}
 use Rattle.waff_model.specs.Tree.{Node, name_of, parent_of}
+use Rattle.waff_assign.specs.Held.{Held}
+use Rattle.waff_plan.specs.Chain.{IsAmongFirst}
 use Rattle.waff_plan.specs.Work.{Work, length_of, numbers}
 use Rattle.waff_figures.specs.ByAffinity.{affinity_figures_row, parent_field, tallied_figures_row, tally_row}
 use Rattle.waff_figures.specs.ByName.{first_messages, has_label, is_named, label_at, label_figures_row, named_row, tallied_name_figures_row}
@@ -13,7 +15,7 @@ use Rattle.waff_figures.specs.declared.parts.PartFigures.{PartFigures}
 use Rattle.waff_figures.specs.declared.tally.Tally.{Tally}
 use Rattle.waff_figures.proofs.Lists.{filter_same}
 use Rattle.waff_figures.proofs.PartLemmas.{numbers_all}
-use Rattle.waff_figures.proofs.RowLemmas.{AreTalliesOf, map_range_same}
+use Rattle.waff_figures.proofs.RowLemmas.{AreTalliesUnder, map_range_same}
 
 -- parts that are told of place by place
 pub placed_parts : (work : Work) (start : ℕ → ℕ) (belongs : ℕ → ℕ → Bool) (n : ℕ) (parts : List PartFigures) → length parts ≡ n
@@ -28,8 +30,19 @@ placed_parts work start belongs n parts many each = record {
       subst (λ g. ArePartFigures work start (part_where work (belongs g)) (get_or parts i no_part)) at (each i inside);
 }
 
+-- parts of the same messages
+pub parts_same : (work : Work) (start : ℕ → ℕ) (one other : ℕ → ℕ → Bool) (keys : List ℕ) (parts : List PartFigures)
+    → ((g m : ℕ) → IsAmongFirst work.count m → one g m ≡ other g m) → AreOfParts work start one keys parts → AreOfParts work start other keys parts
+parts_same work start one other keys parts same are = record {
+  count = are.count;
+  each = λ i low.
+      let g = get_or keys i 0 in
+      subst (λ ms. ArePartFigures work start ms (get_or parts i no_part))
+      (filter_same (one g) (other g) (numbers work) (λ k d short. same g (get_or (numbers work) k d) (numbers_all work.count k d short))) (are.each i low);
+}
+
 module _ (work : Work) (start : ℕ → ℕ) (chain : List ℕ) (tallies : List Tally) (parts : List PartFigures) where
-  pub affinity_rows : (tree : List Node) (assigned below : List ℕ) → AreTalliesOf assigned work chain (length tree) tallies
+  pub affinity_rows : (tree : List Node) (assigned : List Held) (below : List ℕ) → AreTalliesUnder tree assigned work chain tallies
       → map (tallied_figures_row tree (length_of work start) tallies below parts) (range_with_len 0 (length tree))
       ≡ map (affinity_figures_row tree assigned work start chain below parts) (range_with_len 0 (length tree))
   affinity_rows tree assigned below are =

@@ -1,5 +1,5 @@
 -- The groups of messages, one after another, and rows by them.
-use Rattle.std.proofs.Common.{◌≡◌, ℕ, ◌+◌, ◌-◌, ◌<◌, ◌≤◌, ◌==◌, ◌&&◌, Bool, true, List, [], ◌∷◌, ◌++◌, length, get_or, map, All, Option, Some, None, IfSome, arith, refl, sym, ◌∙◌, ap, subst}
+use Rattle.std.proofs.Common.{◌≡◌, ℕ, ◌+◌, ◌-◌, ◌<◌, ◌≤◌, ◌==◌, ◌&&◌, Bool, true, List, [], ◌∷◌, ◌++◌, length, get_or, map, All, Option, Some, None, IfSome, unwrap_or, arith, refl, sym, ◌∙◌, ap, subst}
 use Rattle.std.specs.List.{range_with_len}
 use Rattle.std.specs.List.Sorted.{IsPermutation}
 use Rattle.std.specs.Option.{option_eq}
@@ -9,15 +9,20 @@ use Rattle.std.proofs.lemmas.List.Elements.{All-map}
 use Rattle.std.proofs.lemmas.List.Sorted.{All-permutation}
 use Rattle.std.proofs.lemmas.List.FromFn.{get_or-map-range_with_len, map-range_with_len_more}
 use Rattle.std.proofs.lemmas.Slice.Eq.{bytes_eq-Decides}
+use Rattle.waff_model.specs.Tree.{Node}
+use Rattle.waff_assign.specs.Held.{AreKnown, Held}
+use Rattle.waff_assign.specs.Order.{affinity_of}
 use Rattle.waff_plan.specs.Work.{IsAmongFirst}
+use Rattle.waff_figures.specs.ByAffinity.{affinity_number}
 use Rattle.waff_figures.specs.ByName.{is_named}
 use Rattle.waff_figures.specs.Tally.{is_in}
 use Rattle.waff_figures.specs.Waits.{IsWaitAmong}
 use Rattle.waff_figures.specs.Groups.{firsts_by}
 use Rattle.waff_figures.specs.WaitRows.{AreRows, group_of, row_of, row_over, rows_by, same_group, same_kind}
-use Rattle.waff_figures.specs.WaitText.{name_at}
+use Rattle.waff_figures.specs.WaitText.{name_at, same_affinity}
 use Rattle.waff_figures.specs.declared.wait_rows.Row.{Row}
 use Rattle.waff_figures.specs.declared.waits.Wait.{Wait}
+use Rattle.waff_figures.proofs.AddingUp.{affinity_within}
 use Rattle.waff_figures.proofs.GroupLemmas.{firsts_all, firsts_same}
 use Rattle.waff_figures.proofs.Lists.{filter_same, map_same}
 
@@ -83,6 +88,19 @@ names_tell names texts places count keys long known each m n first second =
     let named : name_at names n ≡ get_or texts g []
     = (bytes_eq-Decides (name_at names n) (get_or texts g [])).0 (sym (each g n low second.from second.to) ∙ same) in
     each g m low first.from first.to ∙ ap (bytes_eq (name_at names m)) (sym named)
+
+-- what may be missing is the same exactly if its numbers are, where that of none is behind all
+options_tell : (a b : Option ℕ) (n : ℕ) → ((x : ℕ) → a ≡ Some x → x < n) → ((x : ℕ) → b ≡ Some x → x < n)
+    → (unwrap_or a n == unwrap_or b n) ≡ option_eq (λ x y. x == y) a b
+options_tell None None n first second = grind (arith, nat_tests)
+options_tell None (Some y) n first second = let low : y < n = second y refl in grind (arith, nat_tests, low)
+options_tell (Some x) None n first second = let low : x < n = first x refl in grind (arith, nat_tests, low)
+options_tell (Some x) (Some y) n first second = refl
+
+pub affinities_tell : (tree : List Node) (assigned : List Held) → AreKnown tree assigned → (m n : ℕ)
+    → (affinity_number tree assigned m == affinity_number tree assigned n) ≡ same_affinity assigned m n
+affinities_tell tree assigned known m n =
+    options_tell (affinity_of assigned m) (affinity_of assigned n) (length tree) (affinity_within tree assigned known m) (affinity_within tree assigned known n)
 
 -- groups that are made of a number and an affinity
 pub groups_tell : (number affinity : ℕ → ℕ) (groups : List (ℕ × ℕ)) (count : ℕ) → groups ≡ map (λ m. (number m, affinity m)) (range_with_len 1 count)

@@ -8,6 +8,7 @@ use Rattle.std.proofs.lemmas.List.Quantifiers.{all_pairs_push}
 use Rattle.waff_model.specs.Tree.{Node}
 use Rattle.waff_model.specs.declared.message.Version.{Version}
 use Rattle.waff_model.specs.declared.message.Version.TheVariants.{V1, V2, V3, V4}
+use Rattle.waff_assign.specs.Held.{Held}
 use Rattle.waff_assign.specs.Order.{Relation}
 use Rattle.waff_plan.specs.Serving.{started_before}
 use Rattle.waff_plan.specs.Waited.{AreWaitedFor, IsWaitedFor}
@@ -136,7 +137,7 @@ module _ (work : Work) (start : ℕ → ℕ) (links : List (Option ℕ)) where
       (so_far_more count n (suc n) next within work start (get_or links (suc n - 1) None) (known (suc n) (omega arith) within) (waits_upto n) old)
 
 -- what starts before another message is one of so many
-pub first_known : (version : Version) (tree : List Node) (assigned : List ℕ) (start : ℕ → ℕ) (i m : ℕ) → started_before version tree assigned start i m
+pub first_known : (version : Version) (tree : List Node) (assigned : List Held) (start : ℕ → ℕ) (i m : ℕ) → started_before version tree assigned start i m
     → IsAmongFirst (length assigned) i
 first_known V1 tree assigned start i m pair = record { from = pair.from; to = omega (arith, pair.earlier, pair.to) }
 first_known V2 tree assigned start i m pair = record { from = pair.from; to = omega (arith, pair.earlier, pair.to) }

@@ -1,6 +1,7 @@
 -- The waits of a plan are one list, and so are their rows.
 use Rattle.std.proofs.Common.{◌≡◌, ℕ, zero, suc, ◌+◌, ◌-◌, ◌<◌, ◌≤◌, inl, inr, Bool, List, ◌++◌, length, get_or, Contains, Option, Some, None, arith, refl, sym, ◌∙◌, ap, subst}
 use Rattle.std.specs.Cmp.{IsEquivalence}
+use Rattle.std.specs.Cmp.Lexicographic.{options_equiv}
 use Rattle.std.specs.Option.{IsSome, is_some}
 use Rattle.std.proofs.lemmas.Bool.{false≢true}
 use Rattle.std.proofs.lemmas.Cmp.{and_equiv, nat_eq_equiv, on_equiv}
@@ -9,6 +10,7 @@ use Rattle.waff_model.specs.Tree.{Node}
 use Rattle.waff_model.specs.Unique.{AtMostOne}
 use Rattle.waff_model.specs.declared.message.Version.{Version}
 use Rattle.waff_model.specs.declared.message.Version.TheVariants.{V1, V2, V3, V4}
+use Rattle.waff_assign.specs.Held.{Held}
 use Rattle.waff_assign.specs.Order.{Relation, affinity_of}
 use Rattle.waff_plan.specs.Obeys.{AwaitsEarlier}
 use Rattle.waff_plan.specs.Serving.{IsStartedBefore, started_before}
@@ -138,21 +140,21 @@ module _ (before again : Relation) (work : Work) (start : ℕ → ℕ) (into : (
   }
 
 -- plans with the same starts start first what the other does
-starts_same : (tree : List Node) (assigned : List ℕ) (work : Work) → length assigned ≡ work.count → (start other : ℕ → ℕ) → AreSame work start other
+starts_same : (tree : List Node) (assigned : List Held) (work : Work) → length assigned ≡ work.count → (start other : ℕ → ℕ) → AreSame work start other
     → (i j : ℕ) → IsStartedBefore tree assigned start i j → IsStartedBefore tree assigned other i j
 starts_same tree assigned work count start other same i j pair =
     let one = same i (record { from = pair.first.from; to = omega (arith, pair.first.to, count) }) in
     let two = same j (record { from = pair.second.from; to = omega (arith, pair.second.to, count) }) in
     record { first = pair.first; second = pair.second; precedes = omega (arith, pair.precedes, one, two); excludes = pair.excludes }
 
-pub started_same : (version : Version) (tree : List Node) (assigned : List ℕ) (work : Work) → length assigned ≡ work.count → (start other : ℕ → ℕ)
+pub started_same : (version : Version) (tree : List Node) (assigned : List Held) (work : Work) → length assigned ≡ work.count → (start other : ℕ → ℕ)
     → AreSame work start other → (i j : ℕ) → started_before version tree assigned start i j → started_before version tree assigned other i j
 started_same V1 tree assigned work count start other same i j pair = pair
 started_same V2 tree assigned work count start other same i j pair = pair
 started_same V3 tree assigned work count start other same i j pair = starts_same tree assigned work count start other same i j pair
 started_same V4 tree assigned work count start other same i j pair = starts_same tree assigned work count start other same i j pair
 
-pub rows_are_one : (version : Version) (tree : List Node) (assigned : List ℕ) (work : Work) → RowsAreOne version tree assigned work
+pub rows_are_one : (version : Version) (tree : List Node) (assigned : List Held) (work : Work) → RowsAreOne version tree assigned work
 rows_are_one version tree assigned work alike start other waits other_waits rows other_rows count follows same are other_are told other_told =
     let before = started_before version tree assigned start in
     let back : AreSame work other start = λ m number. sym (same m number) in
@@ -164,6 +166,6 @@ rows_are_one version tree assigned work alike start other waits other_waits rows
     same_rows alike other_waits rows other_rows (subst (λ ws. AreRows alike ws rows) equal told) other_told
 
 -- messages are alike by an equivalence
-pub alike_laws : (grouping : Grouping) (assigned : List ℕ) (names : List (List ℕ)) → IsEquivalence (are_alike grouping assigned names)
-alike_laws Affinity assigned names = on_equiv (affinity_of assigned) nat_eq_equiv
-alike_laws Name assigned names = and_equiv (on_equiv (name_at names) bytes_laws) (on_equiv (affinity_of assigned) nat_eq_equiv)
+pub alike_laws : (grouping : Grouping) (assigned : List Held) (names : List (List ℕ)) → IsEquivalence (are_alike grouping assigned names)
+alike_laws Affinity assigned names = on_equiv (affinity_of assigned) (options_equiv nat_eq_equiv)
+alike_laws Name assigned names = and_equiv (on_equiv (name_at names) bytes_laws) (on_equiv (affinity_of assigned) (options_equiv nat_eq_equiv))

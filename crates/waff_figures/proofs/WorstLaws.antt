@@ -6,6 +6,7 @@ use Rattle.std.proofs.lemmas.List.Recursion.{max_bounds, max_least}
 use Rattle.waff_model.specs.Tree.{Node}
 use Rattle.waff_model.specs.declared.message.Message.{Message}
 use Rattle.waff_model.specs.declared.message.Version.{Version}
+use Rattle.waff_assign.specs.Held.{Held}
 use Rattle.waff_assign.specs.Order.{affinity_name}
 use Rattle.waff_plan.specs.Obeys.{AwaitsEarlier}
 use Rattle.waff_plan.specs.Serving.{started_before}
@@ -83,7 +84,7 @@ module _ (count : ℕ) (latency other : ℕ → ℕ) (same : (m : ℕ) → IsAmo
   }
 
 -- plans with the same starts have the same lines
-module _ (version : Version) (tree : List Node) (assigned : List ℕ) (messages : List Message) (work : Work) (count : length assigned ≡ work.count)
+module _ (version : Version) (tree : List Node) (assigned : List Held) (messages : List Message) (work : Work) (count : length assigned ≡ work.count)
     (follows : AwaitsEarlier work) (start other : ℕ → ℕ) (same : AreSame work start other) where
   known : (i m : ℕ) → started_before version tree assigned start i m → IsNumber work i
   known i m pair = let is = first_known version tree assigned start i m pair in record { from = is.from; to = omega (arith, is.to, count) }

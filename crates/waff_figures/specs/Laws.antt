@@ -1,33 +1,33 @@
 -- That the columns add up, and that each name has one line.
 use Rattle.std.specs.Prelude.{◌≡◌, ℕ, ◌<◌, ◌≤◌, false, List, All, if◌then◌else◌, count_by, length}
 use Rattle.std.specs.Prelude.{sum_by}
-use Rattle.std.specs.List.{list_any, range_with_len}
+use Rattle.std.specs.List.{list_any}
 use Rattle.std.specs.List.Sorted.{IsStrictlyIncreasing}
 use Rattle.std.specs.Str.{bytes_eq}
 use Rattle.waff_model.specs.Tree.{Node}
+use Rattle.waff_assign.specs.Held.{Held}
 use Rattle.waff_plan.specs.Work.{Work, total_of}
 use Rattle.waff_plan.specs.Chain.{chain_cost}
-use Rattle.waff_figures.specs.ByAffinity.{runs_in}
+use Rattle.waff_figures.specs.ByAffinity.{affinity_numbers, runs_in}
 use Rattle.waff_figures.specs.ByName.{first_messages, is_named, label_at}
 use Rattle.waff_figures.specs.Tally.{tally_of}
 
--- the messages of the affinities add up to all messages
-abbrev pub MessagesAddUp : List Node → List ℕ → Work → List ℕ → Type 0
+-- the messages of the affinities and those of none add up to all messages
+abbrev pub MessagesAddUp : List Node → List Held → Work → List ℕ → Type 0
 MessagesAddUp tree assigned work chain =
-    sum_by (λ a. (tally_of work chain (runs_in assigned a)).messages)
-    (range_with_len 0 (length tree))
+    sum_by (λ a. (tally_of work chain (runs_in tree assigned a)).messages) (affinity_numbers tree)
     ≡ work.count
 
--- the costs of the affinities add up to the total
-abbrev pub CostsAddUp : List Node → List ℕ → Work → List ℕ → Type 0
+-- their costs add up to the total
+abbrev pub CostsAddUp : List Node → List Held → Work → List ℕ → Type 0
 CostsAddUp tree assigned work chain =
-    sum_by (λ a. (tally_of work chain (runs_in assigned a)).cost) (range_with_len 0 (length tree))
+    sum_by (λ a. (tally_of work chain (runs_in tree assigned a)).cost) (affinity_numbers tree)
     ≡ total_of work
 
 -- their costs on a chain add up to its cost
-abbrev pub ChainAddsUp : List Node → List ℕ → Work → List ℕ → Type 0
+abbrev pub ChainAddsUp : List Node → List Held → Work → List ℕ → Type 0
 ChainAddsUp tree assigned work chain =
-    sum_by (λ a. (tally_of work chain (runs_in assigned a)).chain) (range_with_len 0 (length tree))
+    sum_by (λ a. (tally_of work chain (runs_in tree assigned a)).chain) (affinity_numbers tree)
     ≡ chain_cost work chain
 
 -- the messages of the distinct names add up to all messages, their costs to the total, and their

@@ -1,11 +1,11 @@
 -- That the figures of the lines add up, and leave no choice.
-use Rattle.std.specs.Prelude.{◌≡◌, ℕ, Bool, List, Option, length, sum_by}
-use Rattle.std.specs.List.{range_with_len}
+use Rattle.std.specs.Prelude.{◌≡◌, ℕ, Bool, List, Option, sum_by}
 use Rattle.waff_model.specs.Tree.{Node}
+use Rattle.waff_assign.specs.Held.{Held}
 use Rattle.waff_plan.specs.Obeys.{AwaitsEarlier}
 use Rattle.waff_plan.specs.Unique.{AreSame}
 use Rattle.waff_plan.specs.Work.{Work, numbers}
-use Rattle.waff_figures.specs.ByAffinity.{runs_in}
+use Rattle.waff_figures.specs.ByAffinity.{affinity_numbers, runs_in}
 use Rattle.waff_figures.specs.ByName.{first_messages, has_label}
 use Rattle.waff_figures.specs.Figures.{AreFigures, waits_of}
 use Rattle.waff_figures.specs.Parts.{AreOfParts, ArePartFigures, AreTheParts}
@@ -27,11 +27,11 @@ AllAreWhole work =
     → AreFigures limit work bound start figures → ArePartFigures work start (numbers work) part
     → IsWhole figures part
 
--- the waits of the affinities add up to those of all messages
-abbrev pub AffinityWaitsAddUp : List Node → List ℕ → Work → Type 0
+-- the waits of the affinities and of none add up to those of all messages
+abbrev pub AffinityWaitsAddUp : List Node → List Held → Work → Type 0
 AffinityWaitsAddUp tree assigned work =
     (start : ℕ → ℕ) (parts : List PartFigures)
-    → AreOfParts work start (runs_in assigned) (range_with_len 0 (length tree)) parts
+    → AreOfParts work start (runs_in tree assigned) (affinity_numbers tree) parts
     → sum_by (λ part. part.waits) parts ≡ waits_of work start
 
 -- those of the distinct labels do too

@@ -4,6 +4,7 @@ use Rattle.std.specs.Prelude.{count_by, if◌then◌else◌, length, sum_by}
 use Rattle.std.specs.Cmp.{IsEquivalence}
 use Rattle.waff_model.specs.Tree.{Node}
 use Rattle.waff_model.specs.declared.message.Version.{Version}
+use Rattle.waff_assign.specs.Held.{Held}
 use Rattle.waff_assign.specs.Order.{Relation}
 use Rattle.waff_plan.specs.Obeys.{AwaitsEarlier, Obeys}
 use Rattle.waff_plan.specs.Serving.{started_before}
@@ -61,7 +62,7 @@ TicksAddUp before work start =
     → sum_by (λ row. row.ticks) rows ≡ waits_of work start
 
 -- where two plans start each message at the same tick, their rows are equal
-abbrev pub RowsAreOne : Version → List Node → List ℕ → Work → Type 0
+abbrev pub RowsAreOne : Version → List Node → List Held → Work → Type 0
 RowsAreOne version tree assigned work =
     (alike : ℕ → ℕ → Bool) (start other : ℕ → ℕ) (waits other_waits : List Wait)
     (rows other_rows : List Row) → length assigned ≡ work.count → AwaitsEarlier work

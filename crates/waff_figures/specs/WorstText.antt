@@ -4,6 +4,7 @@ use Rattle.std.specs.Prelude.{slice_index_or}
 use Rattle.std.specs.List.{flat_map}
 use Rattle.waff_model.specs.Tree.{Node}
 use Rattle.waff_model.specs.declared.message.Message.{Message}
+use Rattle.waff_assign.specs.Held.{Held}
 use Rattle.waff_assign.specs.Order.{affinity_name}
 use Rattle.waff_plan.specs.Timetable.{clients_of}
 use Rattle.waff_plan.specs.Work.{Work, finish_of, issue_of}
@@ -25,7 +26,7 @@ worst_header =
 
 -- the line of message m: when it is issued, is ready, starts and has finished, how long it takes, and
 -- the message that it waited for, if it waited for one
-abbrev pub worst_row : List Node → List ℕ → List Message → Work → (ℕ → ℕ)
+abbrev pub worst_row : List Node → List Held → List Message → Work → (ℕ → ℕ)
     → ℕ → Option ℕ → List (List ℕ)
 worst_row tree assigned messages work start m waited_for =
     decimal m
@@ -43,7 +44,7 @@ worst_row tree assigned messages work start m waited_for =
     ∷ []
 
 -- the lines of these messages, where the list has for each message the one that it waited for
-abbrev pub worst_lines : List Node → List ℕ → List Message → Work → (ℕ → ℕ)
+abbrev pub worst_lines : List Node → List Held → List Message → Work → (ℕ → ℕ)
     → List (Option ℕ) → List ℕ → List (List (List ℕ))
 worst_lines tree assigned messages work start waited worst =
     worst_header

@@ -1,34 +1,32 @@
 //! That the columns add up, and that each name has one line. Each law is a function that does
 //! nothing and whose contract is the law.
 
-ghost use Rattle.std.specs.Prelude.{◌≡◌, ◌<◌, ℕ, Bool, List, All, length};
+ghost use Rattle.std.specs.Prelude.{◌≡◌, ℕ, Bool, List, All, length};
 ghost use Rattle.std.specs.Cmp.{IsEquivalence};
 ghost use Rattle.waff_model.specs.Tree.{Node};
+ghost use Rattle.waff_assign.specs.Held.{AreKnown, Held};
 ghost use Rattle.waff_plan.specs.Chain.{IsAmongFirst};
 ghost use Rattle.waff_plan.specs.Work.{Work};
 ghost use Rattle.waff_figures.specs.Groups.{AreGrouped};
 ghost use Rattle.waff_figures.specs.Laws.{ChainAddsUp, CostsAddUp, MessagesAddUp, NameIsOnce};
 ghost use Rattle.waff_figures.specs.Laws.{NamesAddUp, NamesInOrder};
 
-/// The messages of the affinities add up to all messages.
+/// The messages of the affinities and those of none add up to all messages.
 pub fn messages_add_up()
-    ensures { (tree : List Node) (assigned : List ℕ) (work : Work) (chain : List ℕ)
-        → 0 < length tree
-        → All (λ a. a < length tree) assigned → MessagesAddUp tree assigned work chain }
+    ensures { (tree : List Node) (assigned : List Held) (work : Work) (chain : List ℕ)
+        → AreKnown tree assigned → MessagesAddUp tree assigned work chain }
 {}
 
-/// The costs of the affinities add up to the total.
+/// Their costs add up to the total.
 pub fn costs_add_up()
-    ensures { (tree : List Node) (assigned : List ℕ) (work : Work) (chain : List ℕ)
-        → 0 < length tree
-        → All (λ a. a < length tree) assigned → CostsAddUp tree assigned work chain }
+    ensures { (tree : List Node) (assigned : List Held) (work : Work) (chain : List ℕ)
+        → AreKnown tree assigned → CostsAddUp tree assigned work chain }
 {}
 
 /// Their costs on a chain add up to its cost.
 pub fn chain_adds_up()
-    ensures { (tree : List Node) (assigned : List ℕ) (work : Work) (chain : List ℕ)
-        → 0 < length tree
-        → All (λ a. a < length tree) assigned → ChainAddsUp tree assigned work chain }
+    ensures { (tree : List Node) (assigned : List Held) (work : Work) (chain : List ℕ)
+        → AreKnown tree assigned → ChainAddsUp tree assigned work chain }
 {}
 
 /// Numbers in groups of those that are alike: each is in one group, and sums over the groups are the

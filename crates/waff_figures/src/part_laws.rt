@@ -1,8 +1,9 @@
 //! That the figures of the lines add up, and that those of all messages are the plan's. Each law is a
 //! function that does nothing and whose contract is the law.
 
-ghost use Rattle.std.specs.Prelude.{◌≡◌, ◌<◌, ℕ, List, All, length};
+ghost use Rattle.std.specs.Prelude.{◌≡◌, ℕ, List, length};
 ghost use Rattle.waff_model.specs.Tree.{Node};
+ghost use Rattle.waff_assign.specs.Held.{AreKnown, Held};
 ghost use Rattle.waff_plan.specs.Work.{Work};
 ghost use Rattle.waff_figures.specs.PartLaws.{AffinityWaitsAddUp, AllAreWhole, LabelWaitsAddUp};
 ghost use Rattle.waff_figures.specs.PartLaws.{PartsAreOne};
@@ -12,10 +13,10 @@ pub fn all_are_whole()
     ensures { (work : Work) → AllAreWhole work }
 {}
 
-/// The waits of the affinities add up to those of all messages.
+/// The waits of the affinities and of none add up to those of all messages.
 pub fn affinity_waits_add_up()
-    ensures { (tree : List Node) (assigned : List ℕ) (work : Work) → 0 < length tree
-        → All (λ a. a < length tree) assigned → AffinityWaitsAddUp tree assigned work }
+    ensures { (tree : List Node) (assigned : List Held) (work : Work)
+        → AreKnown tree assigned → AffinityWaitsAddUp tree assigned work }
 {}
 
 /// The waits of the distinct labels of messages do too.

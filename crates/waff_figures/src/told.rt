@@ -2,6 +2,7 @@
 
 use crate::grouping::{Columns, Grouping, Label};
 use waff_list::Rule;
+use waff_model::Locking;
 use waff_plan::Workers;
 
 /// What is asked of a trace under a hierarchy. Where a command takes a number of workers, none means
@@ -29,4 +30,7 @@ pub enum Told {
     Worst(Option<Workers>, Rule, u32),
     /// Why messages run high in the tree, by their names too or not.
     Why(Grouping),
+    /// Which spaces are worth locks of this kind, by the plan for this number of workers by this rule, in at most so
+    /// many steps.
+    Locks(Option<Workers>, Rule, Locking, u32),
 }

@@ -2,7 +2,7 @@
 
 ghost use Rattle.std.specs.Prelude.{◌≡◌, ◌-◌, ℕ, IfOk, length, map, slice_index};
 ghost use Rattle.std.specs.List.{range_with_len};
-ghost use Rattle.waff_assign.specs.Order.{affinity_of};
+ghost use Rattle.waff_assign.specs.Order.{held_of, number_or};
 ghost use Rattle.waff_plan.specs.Work.{IsAmongFirst};
 ghost use Rattle.waff_figures.specs.ByName.{message_names};
 ghost use Rattle.waff_figures.specs.WaitRows.{same_group};
@@ -25,22 +25,27 @@ pub fn groups(alloc: Global, case: &Case<'_>, grouping: Grouping) -> Result<Vec<
         (message_names case.now.trace.now.messages) m n) }
 {
     match grouping {
-        Grouping::Affinity => affinity_groups(alloc, case.assigned),
+        Grouping::Affinity => affinity_groups(alloc, case.assigned, case.tree.len()),
         Grouping::Name => {
             let found = names_of(alloc, case.trace, Label::Name)?;
-            numbered_groups(alloc, case.assigned, found.places.as_slice())
+            numbered_groups(
+                alloc,
+                case.assigned,
+                found.places.as_slice(),
+                case.tree.len(),
+            )
         }
     }
 }
 
 /// The groups of messages by their affinities.
-fn affinity_groups(alloc: Global, assigned: &Assigned) -> Result<Vec<Group>, AllocError>
+fn affinity_groups(alloc: Global, assigned: &Assigned, none: u32) -> Result<Vec<Group>, AllocError>
     ensures { IfOk result (λ groups. groups.items
-        ≡ map (λ m. (0, affinity_of assigned.now m)) (range_with_len 1 (length assigned.now))) }
+        ≡ map (λ m. (0, number_or none (held_of assigned.now m))) (range_with_len 1 (length assigned.now))) }
 {
     let mut groups = Vec::with_capacity(alloc, assigned.len() as usize)?;
     for n in 1..assigned.len() + 1 {
-        groups.push((0, u32::from(assigned.of(n).0)))?;
+        groups.push((0, assigned.number(n, none)))?;
     }
     Ok(groups)
 }
@@ -50,15 +55,16 @@ fn numbered_groups(
     alloc: Global,
     assigned: &Assigned,
     numbers: &[u32],
+    none: u32,
 ) -> Result<Vec<Group>, AllocError>
     requires lengths { length numbers.now ≡ length assigned.now }
     ensures { IfOk result (λ groups. groups.items
-        ≡ map (λ m. (slice_index numbers.now (m - 1), affinity_of assigned.now m))
+        ≡ map (λ m. (slice_index numbers.now (m - 1), number_or none (held_of assigned.now m)))
         (range_with_len 1 (length assigned.now))) }
 {
     let mut groups = Vec::with_capacity(alloc, assigned.len() as usize)?;
     for n in 1..assigned.len() + 1 {
-        groups.push((numbers[n as usize - 1], u32::from(assigned.of(n).0)))?;
+        groups.push((numbers[n as usize - 1], assigned.number(n, none)))?;
     }
     Ok(groups)
 }

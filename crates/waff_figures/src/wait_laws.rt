@@ -5,6 +5,7 @@
 ghost use Rattle.std.specs.Prelude.{ℕ, List};
 ghost use Rattle.waff_model.specs.Tree.{Node};
 ghost use Rattle.waff_model.specs.declared.message.Version.{Version};
+ghost use Rattle.waff_assign.specs.Held.{Held};
 ghost use Rattle.waff_plan.specs.Serving.{started_before};
 ghost use Rattle.waff_plan.specs.Work.{Work};
 ghost use Rattle.waff_figures.specs.WaitLaws.{AwaitingIsNoWait, ReadyIsGreatest, RowsAreOne};
@@ -13,20 +14,20 @@ ghost use Rattle.waff_figures.specs.WaitLaws.{TicksAddUp, WaitsAddUp, WaitsAreOn
 /// A message waits for another one until the greatest of its issue and the finishes of the messages
 /// that exclude it and are served before it.
 pub fn ready_is_greatest()
-    ensures { (version : Version) (tree : List Node) (assigned : List ℕ) (work : Work)
+    ensures { (version : Version) (tree : List Node) (assigned : List Held) (work : Work)
         (start : ℕ → ℕ) → ReadyIsGreatest (started_before version tree assigned start) work start }
 {}
 
 /// In a plan that obeys, the waits of a message add up to the time from its issue to its start.
 pub fn waits_add_up()
-    ensures { (version : Version) (tree : List Node) (assigned : List ℕ) (work : Work)
+    ensures { (version : Version) (tree : List Node) (assigned : List Held) (work : Work)
         (start : ℕ → ℕ) → WaitsAddUp (started_before version tree assigned start) work start }
 {}
 
 /// In a plan that obeys, a message that starts as soon as one that it awaits holds it back no longer waits for
 /// nobody.
 pub fn awaiting_is_no_wait()
-    ensures { (version : Version) (tree : List Node) (assigned : List ℕ) (work : Work)
+    ensures { (version : Version) (tree : List Node) (assigned : List Held) (work : Work)
         (start : ℕ → ℕ) → AwaitingIsNoWait (started_before version tree assigned start) work start }
 {}
 
@@ -37,12 +38,12 @@ pub fn waits_are_once()
 
 /// In a plan that obeys, the ticks of all rows add up to how long all messages wait.
 pub fn ticks_add_up()
-    ensures { (version : Version) (tree : List Node) (assigned : List ℕ) (work : Work)
+    ensures { (version : Version) (tree : List Node) (assigned : List Held) (work : Work)
         (start : ℕ → ℕ) → TicksAddUp (started_before version tree assigned start) work start }
 {}
 
 /// The rows of a plan are one list.
 pub fn rows_are_one()
-    ensures equal { (version : Version) (tree : List Node) (assigned : List ℕ) (work : Work)
+    ensures equal { (version : Version) (tree : List Node) (assigned : List Held) (work : Work)
         → RowsAreOne version tree assigned work }
 {}

@@ -11,6 +11,7 @@ use Rattle.waff_assign.specs.Instance.{Instance}
 use Rattle.waff_assign.specs.Lowest.{IsAssignment}
 use Rattle.waff_assign.proofs.Uniqueness.{assignment_is_one}
 use Rattle.waff_inputs.specs.Inputs.{Accepts, IsToldOf, IsToldUnder}
+use Rattle.waff_assign.specs.Held.{Held}
 
 -- bytes are read as one thing
 pub same_ok : {A E : Type 0} (read : Result A E) (a b : A) → read ≡ Ok a → read ≡ Ok b → a ≡ b
@@ -26,7 +27,7 @@ layout_tree file layout read = let limits = layout_is_within_limits file layout 
 
 same_instance : (one other : Instance) → one.tree ≡ other.tree → one.assigned ≡ other.assigned → one.trace ≡ other.trace → one ≡ other
 same_instance one other trees assignments traces =
-    let made : List Node → List ℕ → Arrivals → Instance = λ tree assigned trace. record { tree = tree; assigned = assigned; trace = trace } in
+    let made : List Node → List Held → Arrivals → Instance = λ tree assigned trace. record { tree = tree; assigned = assigned; trace = trace } in
     ap (λ t. made t one.assigned one.trace) trees ∙ ap (λ a. made other.tree a one.trace) assignments ∙ ap (made other.tree other.assigned) traces
 
 pub same_input : (hierarchy_file trace_file : List ℕ) (one other : Instance) → Accepts hierarchy_file trace_file one → Accepts hierarchy_file trace_file other

@@ -26,6 +26,7 @@ key_name key.Size = codes "Size"
 key_name key.Space = codes "Space"
 key_name key.Unit = codes "Unit"
 key_name key.To = codes "To"
+key_name key.Locks = codes "Locks"
 
 abbrev pub tree_error_name : TreeError → List ℕ
 tree_error_name tree.Name = codes "Name"

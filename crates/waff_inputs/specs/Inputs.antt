@@ -5,14 +5,14 @@ use Rattle.waff_model.specs.Layout.{Hierarchy}
 use Rattle.waff_model.specs.Messages.{Arrivals}
 use Rattle.waff_read.specs.Hierarchies.{hierarchy_of}
 use Rattle.waff_inputs.specs.Known.{trace_of}
+use Rattle.waff_assign.specs.Held.{Held}
 use Rattle.waff_assign.specs.Instance.{Instance}
 use Rattle.waff_assign.specs.Lowest.{IsAssignment}
 use Rattle.waff_inputs.specs.declared.fault.ToolError.{ToolError}
 use Rattle.waff_inputs.specs.declared.fault.ToolError.TheVariants as tool
 
 -- bytes that are a hierarchy and a trace over it, and the instance that they come to: the tree of the
--- hierarchy, the trace, and its assignment, for each message the lowest affinity that covers its
--- footprint
+-- hierarchy, the trace, and its assignment, which says what each message holds
 pub record Accepts (hierarchy_file trace_file : List ℕ) (instance : Instance) : Type 0 where
   pub layout : Hierarchy
   pub is_layout : hierarchy_of hierarchy_file ≡ Ok layout
@@ -20,8 +20,8 @@ pub record Accepts (hierarchy_file trace_file : List ℕ) (instance : Instance) 
   pub is_trace : trace_of layout.spaces trace_file ≡ Ok instance.trace
   pub assignment : IsAssignment layout instance.trace.messages instance.assigned
 
--- a trace under a hierarchy with these affinities
-abbrev pub instance_under : Hierarchy → List ℕ → Arrivals → Instance
+-- a trace under a hierarchy, with what its messages hold
+abbrev pub instance_under : Hierarchy → List Held → Arrivals → Instance
 instance_under layout assigned trace =
     record { tree = layout.tree; assigned = assigned; trace = trace }
 

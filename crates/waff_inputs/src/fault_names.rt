@@ -59,6 +59,7 @@ fn key_name(key: Key) -> &'static str
         Key::Space => "Space",
         Key::Unit => "Unit",
         Key::To => "To",
+        Key::Locks => "Locks",
     }
 }
 

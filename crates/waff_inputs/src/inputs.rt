@@ -7,6 +7,7 @@ ghost use Rattle.waff_assign.specs.Lowest.{IsAssignment};
 ghost use Rattle.waff_inputs.specs.Inputs.{Accepts, IsRefusal, Refuses, RefusesHierarchy};
 ghost use Rattle.waff_inputs.specs.Inputs.{instance_under, trace_over};
 ghost use Rattle.waff_inputs.specs.Known.{trace_of};
+ghost use Rattle.waff_assign.specs.Held.{AreKnown};
 
 use crate::fault::ToolError;
 use crate::traces::{read_trace, read_trace_by_threads};
@@ -16,14 +17,14 @@ use waff_assign::{Assigned, Case, assign, assign_by_threads};
 use waff_model::{Layout, Trace};
 use waff_read::read_hierarchy;
 
-/// A hierarchy, a trace over it, and the affinity of each message.
+/// A hierarchy, a trace over it, and what each message holds.
 #[derive(Drop)]
 pub struct Accepted {
     pub layout: Layout,
     pub trace: Trace,
     pub assigned: Assigned,
     ghost lengths: { length assigned ≡ length trace.messages },
-    ghost known: { All (λ affinity. affinity < length layout.tree) assigned },
+    ghost known: { AreKnown layout.tree assigned },
     ghost fits: { trace.sizes ≡ sizes_of layout.spaces },
 }
 
@@ -73,7 +74,7 @@ pub fn accept(alloc: Global, hierarchy: &[u8], trace: &[u8]) -> Result<Accepted,
     match read_trace(alloc, &layout, trace) {
         Ok(trace) => {
             let assigned = assign(alloc, &layout, &trace);
-            with_affinities(layout, trace, assigned)
+            with_assignment(layout, trace, assigned)
         }
         Err(fault) => {
             drop(layout);
@@ -115,13 +116,15 @@ pub fn accept_over_layout<R: Threads + Sync>(
         → hierarchy_of hierarchy_file ≡ Ok layout
         → Accepts hierarchy_file trace.now (instance_under a.layout a.assigned a.trace)) }
     ensures layout { IfOk result (λ a. a.layout ≡ layout) }
+    ensures trace { IfOk result (λ a. trace_of layout.spaces trace.now ≡ Ok a.trace) }
+    ensures assignment { IfOk result (λ a. IsAssignment layout a.trace.messages a.assigned) }
     ensures refused { IfErr result (IsRefusal (trace_over layout trace.now)) }
     ensures nothing { IfErr result (λ e. e ≢ ToolError.Write) }
 {
     match read_trace_by_threads(rt, alloc, &layout, trace) {
         Ok(trace) => {
             let assigned = assign_by_threads(rt, alloc, &layout, &trace);
-            with_affinities(layout, trace, assigned)
+            with_assignment(layout, trace, assigned)
         }
         Err(fault) => {
             drop(layout);
@@ -130,19 +133,21 @@ pub fn accept_over_layout<R: Threads + Sync>(
     }
 }
 
-/// The hierarchy and the trace, with the affinity of each message.
-fn with_affinities(
+/// The hierarchy and the trace, with what each message holds.
+fn with_assignment(
     layout: Layout,
     trace: Trace,
     assigned: Result<Assigned, AllocError>,
 ) -> Result<Accepted, ToolError>
     requires fits { trace.sizes ≡ sizes_of layout.spaces }
     requires assignment { IfOk assigned (IsAssignment layout trace.messages) }
-    requires known { IfOk assigned (All (λ a. a < length layout.tree)) }
+    requires known { IfOk assigned (AreKnown layout.tree) }
     ensures accepted { IfOk result (λ a. (hierarchy_file trace_file : List ℕ)
         → hierarchy_of hierarchy_file ≡ Ok layout → trace_of layout.spaces trace_file ≡ Ok trace
         → Accepts hierarchy_file trace_file (instance_under a.layout a.assigned a.trace)) }
     ensures layout { IfOk result (λ a. a.layout ≡ layout) }
+    ensures trace { IfOk result (λ a. a.trace ≡ trace) }
+    ensures assignment { IfOk result (λ a. IsAssignment layout trace.messages a.assigned) }
     ensures memory { IfErr result (λ e. e ≡ ToolError.Memory) }
 {
     match assigned {

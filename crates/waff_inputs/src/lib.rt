@@ -1,12 +1,12 @@
 //! What every command begins and ends with: its files accepted or refused, and its text written.
 //!
-//! The nouns: a hierarchy and a trace over it are *accepted*, with the affinity of each message; a
+//! The nouns: a hierarchy and a trace over it are *accepted*, with what each message holds; a
 //! *fault* (`ToolError`) tells why a command gave no text, and has a line and an exit status; a
 //! *text* is written whole, or a part of it from its front.
 //! The one step: the bytes of a hierarchy and of a trace are read in this order, and the first that
 //! is refused decides.
 //!
-//! - `inputs`: a hierarchy by its number; a hierarchy and a trace with the affinities.
+//! - `inputs`: a hierarchy by its number; a hierarchy and a trace with the assignment.
 //! - `traces`: traces of the versions that the commands know.
 //! - `fault`, `fault_names`: faults, their lines and statuses.
 //! - `output`: a text written.

@@ -61,7 +61,7 @@ module _ (timings : List Timing) where
     finish_same m = by_same m m
 
 pub after_is_not_below : (instance : Instance) → AfterIsNotBelow instance
-after_is_not_below instance start limits are =
+after_is_not_below instance spaces start limits are =
     let timings = timings_of instance.trace.messages in
     let below = greatest_below (earliest_finish (client_work_of timings)) (earliest_finish (work_of timings)) (range_with_len 1 (length timings))
     (λ m. client_sooner timings m m) in

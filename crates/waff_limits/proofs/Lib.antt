@@ -17,6 +17,9 @@ pub mod JumpLemmas
 pub mod InnerLemmas
 pub mod Searching
 pub mod Sharing
+pub mod SharedCells
+mod Ranges
+mod LockLaws
 pub mod WrittenCells
 pub mod SkyLemmas
 pub mod Skyline

@@ -5,24 +5,26 @@ use Rattle.std.proofs.lemmas.Bool.{cases_eq}
 use Rattle.std.proofs.lemmas.List.{length_push}
 use Rattle.std.proofs.lemmas.List.Elements.{All-contains, All-push, Contains-append_left, Contains-append_right}
 use Rattle.std.proofs.lemmas.List.Quantifiers.{all_pairs_push}
-use Rattle.std.proofs.lemmas.Option.{get_or_from_slice_get}
+use Rattle.std.proofs.lemmas.Option.{get_or_from_slice_get, same_Some}
+use Rattle.waff_model.specs.Cells.{cells_of}
 use Rattle.waff_model.specs.Layout.{Hierarchy}
 use Rattle.waff_model.specs.Numbers.{IsAmongFirst}
 use Rattle.waff_model.specs.Unique.{AtMostOne}
 use Rattle.waff_model.specs.declared.cell.Cell.{Cell}
 use Rattle.waff_model.specs.declared.message.Message.{Message}
-use Rattle.waff_assign.specs.Lowest.{IsInFootprint}
+use Rattle.waff_assign.specs.Lowest.{IsUnlockedAmong}
 use Rattle.waff_assign.specs.Order.{affinity_of}
 use Rattle.waff_plan.specs.Timetable.{message_of, no_message}
 use Rattle.waff_figures.proofs.Lists.{same_order}
-use Rattle.waff_limits.specs.Lifted.{AreLifting, AreLifts, IsInner, IsLift, IsTold, IsUsedBy, RunsHigh}
+use Rattle.waff_limits.specs.Lifted.{AreLifting, AreLifts, IsHighIn, IsLift, IsTold, IsUsedBy, RunsHigh}
 use Rattle.waff_limits.specs.declared.lifted.Lift.{Lift}
 use Rattle.waff_limits.proofs.LiftLemmas.{lifting_is_one}
+use Rattle.waff_assign.specs.Held.{Held}
 
 abbrev Comes : Lift → Lift → Type 0
 Comes one other = one.message < other.message
 
-module _ (layout : Hierarchy) (messages : List Message) (assigned : List ℕ) where
+module _ (layout : Hierarchy) (messages : List Message) (assigned : List Held) where
   -- the lifts of the messages before message n
   pub record AreBefore (n : ℕ) (lifts : List Lift) : Type 0 where
     pub each : All (IsLift layout messages assigned) lifts
@@ -81,12 +83,14 @@ module _ (layout : Hierarchy) (messages : List Message) (assigned : List ℕ) wh
   lift_is_one : (one other : Lift) → one.message ≡ other.message → IsLift layout messages assigned one → IsLift layout messages assigned other → one ≡ other
   lift_is_one one other same p q =
       let n = other.message in
-      let cells = lifting_is_one layout (IsUsedBy messages n) (affinity_of assigned n) one.cell one.other other.cell other.other
-      (subst (λ m. AreLifting layout (IsUsedBy messages m) (affinity_of assigned m) one.cell one.other) same p.cells) q.cells in
+      let affinities : p.affinity ≡ q.affinity = same_Some p.affinity q.affinity (sym p.high.affinity ∙ ap (affinity_of assigned) same ∙ q.high.affinity) in
+      let cells = lifting_is_one layout (IsUsedBy layout messages n) q.affinity one.cell one.other other.cell other.other
+      (subst (λ m. AreLifting layout (IsUsedBy layout messages m) q.affinity one.cell one.other) same
+      (subst (λ a. AreLifting layout (IsUsedBy layout messages one.message) a one.cell one.other) affinities p.cells)) q.cells in
       same_lift one other same (p.cost ∙ ap (λ m. (message_of messages m).cost) same ∙ sym q.cost) cells.0 cells.1
 
   is_high : (lift : Lift) → IsLift layout messages assigned lift → RunsHigh layout.tree messages assigned lift.message
-  is_high lift is = record { number = is.number; inner = is.inner }
+  is_high lift is = record { number = is.number; high = (is.affinity, is.high) }
 
   one_way : (one other : Lift) → Comes one other → Comes other one → ⊥
   one_way one other less more = omega (arith, less, more)
@@ -102,16 +106,17 @@ module _ (layout : Hierarchy) (messages : List Message) (assigned : List ℕ) wh
       same_order Comes one_way lifts other are.order other_are.order (into lifts other are other_are) (into other lifts other_are are)
 
 -- what is told of message n, which is this one
-module _ (layout : Hierarchy) (messages : List Message) (assigned : List ℕ) (n : ℕ) (message : Message) (is : slice_get messages (n - 1) ≡ Some message) where
+module _ (layout : Hierarchy) (messages : List Message) (assigned : List Held) (n : ℕ) (message : Message) (is : slice_get messages (n - 1) ≡ Some message) where
   same_message : message_of messages n ≡ message
   same_message = get_or_from_slice_get messages (n - 1) message no_message is
 
-  pub is_lift : (cell other : Cell) → IsAmongFirst (length messages) n → IsInner layout.tree (affinity_of assigned n)
-      → AreLifting layout (IsInFootprint message.ops) (affinity_of assigned n) cell other
+  pub is_lift : (cell other : Cell) (a : ℕ) → IsAmongFirst (length messages) n → IsHighIn layout.tree assigned n a
+      → AreLifting layout (IsUnlockedAmong layout (cells_of message.ops)) a cell other
       → IsLift layout messages assigned (record { message = n; cost = message.cost; cell = cell; other = other })
-  is_lift cell other number inner lifting = record {
+  is_lift cell other a number high lifting = record {
     number = number;
     cost = ap (λ (m : Message). m.cost) (sym same_message);
-    cells = subst (λ (m : Message). AreLifting layout (IsInFootprint m.ops) (affinity_of assigned n) cell other) (sym same_message) lifting;
-    inner = inner;
+    affinity = a;
+    high = high;
+    cells = subst (λ (m : Message). AreLifting layout (IsUnlockedAmong layout (cells_of m.ops)) a cell other) (sym same_message) lifting;
   }

@@ -11,7 +11,7 @@ use Rattle.waff_model.specs.declared.message.Version.{Version}
 use Rattle.waff_model.specs.declared.message.Version.TheVariants.{V1, V2, V3, V4}
 use Rattle.waff_assign.specs.Instance.{Instance}
 use Rattle.waff_assign.specs.Order.{IsOrdered, affinity_of}
-use Rattle.waff_assign.proofs.Knowing.{affinity_known}
+use Rattle.waff_assign.proofs.Knowing.{are_known}
 use Rattle.waff_plan.specs.Apart.{AreApart}
 use Rattle.waff_plan.specs.Bound.{IsWorkers}
 use Rattle.waff_plan.specs.Instances.{served_first, work_of_instance}
@@ -23,15 +23,17 @@ use Rattle.waff_plan.specs.Timetable.{AreTimings, client_work_of_messages, messa
 use Rattle.waff_plan.specs.TreeStarts.{TreeIsReached, tree_start}
 use Rattle.waff_plan.specs.Work.{IsAmongFirst, IsNumber, Work, greatest, length_of, total_of}
 use Rattle.waff_plan.specs.declared.peak.Peak.{Peak}
+use Rattle.waff_plan.specs.declared.timing.Timing.{Timing}
 use Rattle.waff_plan.proofs.ApartLaws.{apart_where_finished}
 use Rattle.waff_plan.proofs.Chains.{least_is_shortest}
 use Rattle.waff_plan.proofs.LowerBounds.{earliest_is, none_is_below}
 use Rattle.waff_plan.proofs.ServingLemmas.{each_runs, least_started}
 use Rattle.waff_plan.proofs.StartOrder.{served_apart, serving_obeys}
-use Rattle.waff_plan.proofs.TimingLemmas.{are_timings, awaits_client, floor_alone, length-timings_of, timings_alone}
+use Rattle.waff_plan.proofs.TimingLemmas.{are_timings, awaits_client, floor_alone, length-timings_of, timing_is, timings_alone}
 use Rattle.waff_plan.proofs.Uniqueness.{same_length}
 use Rattle.waff_figures.proofs.LeastLaws.{follows_in}
-use Rattle.waff_limits.specs.Data.{ComesBefore, IsMost, IsMostOf, ticks_on}
+use Rattle.waff_limits.specs.Data.{ComesBefore, IsMost, IsMostOf}
+use Rattle.waff_limits.specs.Locks.{ticks_locked, ticks_needed}
 use Rattle.waff_limits.specs.Laws.{ClientsFinish, IsUnder, KeepsOrderWhere, LimitsAreLowerBound, LimitsAreOne, NoListsAddNothing, NoneIsBelowLimits, OrderIsNotBelow, OrderIsShortest, PathIsReached, StartsAtOnce, greatest_limit}
 use Rattle.waff_limits.specs.Limits.{AreLimits, ticks_of}
 use Rattle.waff_limits.specs.declared.data.CellUse.{CellUse}
@@ -39,9 +41,11 @@ use Rattle.waff_limits.specs.declared.limits.Limits.{Limits}
 use Rattle.waff_limits.proofs.AfterLaws.{after_is_not_below, finish_same, peak_again}
 use Rattle.waff_limits.proofs.Cells.{cases_cell, is_turned}
 use Rattle.waff_limits.proofs.DataLaws.{data_bounds}
-use Rattle.waff_limits.proofs.LimitLemmas.{most_used_is_cell}
-use Rattle.waff_limits.proofs.Sharing.{writes_below}
+use Rattle.waff_limits.proofs.LimitLemmas.{most_is_cell}
+use Rattle.waff_limits.proofs.LockLaws.{locks_are}
+use Rattle.waff_limits.proofs.SharedCells.{needed_within, writes_below}
 use Rattle.waff_limits.specs.Writes.{ticks_shared}
+use Rattle.waff_assign.specs.Held.{AreKnown, AreUnlocked}
 
 module _ (instance : Instance) (layout : Hierarchy) (under : IsUnder layout instance) where
   abbrev work : Work
@@ -62,32 +66,37 @@ module _ (instance : Instance) (layout : Hierarchy) (under : IsUnder layout inst
   runs : EachRuns work
   runs = each_runs instance.trace.version (timings_of instance.trace.messages) timings
 
-  -- what uses a cell runs on a path
-  pub cell_below : (found : Option CellUse) → IsMostOf (ticks_on instance.trace.messages) found → ticks_of found ≤ greatest (map path (range_with_len 0 (length instance.tree)))
-  cell_below None most = omega arith
-  cell_below (Some one) most =
-      let lies : IsCell layout.spaces one.cell = most_used_is_cell layout.spaces instance.trace under.is_trace under.fits (Some one) most in
-      let bound = data_bounds layout instance.trace.messages instance.assigned under.is_layout under.assignment one.cell lies in
-      let here : ticks_on instance.trace.messages one.cell ≤ greatest (map path (range_with_len 0 (length instance.tree)))
-      = subst (λ tree. ticks_on instance.trace.messages one.cell ≤ greatest (map (path_cost tree instance.assigned work) (range_with_len 0 (length tree)))) under.tree bound in
+  -- what needs a cell runs on a path, or uses a lock
+  pub cell_below : (found locks : Option CellUse) → IsMostOf (ticks_needed layout.spaces instance.trace.messages) found
+      → IsMostOf (ticks_locked layout.spaces instance.trace.messages instance.assigned) locks
+      → ticks_of found ≤ max (greatest (map path (range_with_len 0 (length instance.tree)))) (ticks_of locks)
+  cell_below None locks most locked = omega arith
+  cell_below (Some one) locks most locked =
+      let messages = instance.trace.messages in
+      let lies : IsCell layout.spaces one.cell = most_is_cell layout.spaces instance.trace under.is_trace under.fits (ticks_needed layout.spaces messages)
+      (λ cell some. omega (arith, some, needed_within layout.spaces messages cell)) (Some one) most in
+      let bound = data_bounds layout.spaces layout messages instance.assigned under.is_layout under.assignment (λ cell is. is) locks locked one.cell lies in
+      let here : ticks_needed layout.spaces messages one.cell ≤ max (greatest (map path (range_with_len 0 (length instance.tree)))) (ticks_of locks)
+      = subst (λ tree. ticks_needed layout.spaces messages one.cell ≤ max (greatest (map (path_cost tree instance.assigned work) (range_with_len 0 (length tree)))) (ticks_of locks)) under.tree bound in
       omega (arith, here, most.ticks)
 
-  pub is_lower_bound : (workers : Option ℕ) (start : ℕ → ℕ) (limits : Limits) → AreLimits instance start limits
+  costs : (m : ℕ) → IsNumber work m → work.cost m ≡ (message_of instance.trace.messages m).cost
+  costs m number =
+      ap (λ (t : Timing). t.cost)
+      (timing_is instance.trace.messages m (record { from = number.from; to = subst (λ n. m ≤ n) (length-timings_of instance.trace.messages) number.to }))
+
+  pub is_lower_bound : (workers : Option ℕ) (start : ℕ → ℕ) (limits : Limits) → AreLimits layout.spaces instance start limits
       → greatest_limit workers limits ≡ lower_bound_of workers instance.tree instance.assigned work
   is_lower_bound workers start limits are =
+      let messages = instance.trace.messages in
       let share : share_in workers limits.total ≡ share_in workers (total_of work) = ap (share_in workers) are.total in
-      let below : ticks_of limits.cell ≤ limits.path.ticks = subst (λ n. ticks_of limits.cell ≤ n) (sym are.path.ticks) (cell_below limits.cell are.cell) in
-      let shared = writes_below instance.trace.messages limits.writes limits.cell are.writes are.cell in
-      let listed : limits.client.ticks ≤ limits.after.ticks = after_is_not_below instance start limits are in
-      let most : max (ticks_of limits.writes) (max (ticks_of limits.cell) limits.path.ticks) ≡ limits.path.ticks = omega (arith, below, shared) in
-      let cells : ℕ = max (ticks_of limits.writes) (max (ticks_of limits.cell) limits.path.ticks) in
-      let awaited : max limits.client.ticks (max limits.after.ticks cells) ≡ max limits.after.ticks cells = omega (arith, listed) in
-      ap (λ n. max n (max limits.client.ticks (max limits.after.ticks cells))) share
-      ∙ ap (max (share_in workers (total_of work))) awaited
-      ∙ ap (λ n. max (share_in workers (total_of work)) (max n cells)) are.after.ticks
-      ∙ ap (λ n. max (share_in workers (total_of work)) (max (greatest (map (earliest_finish work) (range_with_len 1 work.count))) n)) (most ∙ are.path.ticks)
+      let below = cell_below limits.cell limits.locks are.cell are.locks in
+      let shared = writes_below layout.spaces messages limits.writes limits.cell are.writes are.cell in
+      let listed : limits.client.ticks ≤ limits.after.ticks = after_is_not_below instance layout.spaces start limits are in
+      let locks = locks_are layout messages instance.assigned under.assignment work (length-timings_of messages) costs limits.locks are.locks in
+      omega (arith, share, below, shared, listed, locks, are.after.ticks, are.path.ticks)
 
-  pub none_below : (workers : Option ℕ) (start other : ℕ → ℕ) (limits : Limits) → IfSome workers IsWorkers → AreLimits instance start limits
+  pub none_below : (workers : Option ℕ) (start other : ℕ → ℕ) (limits : Limits) → IfSome workers IsWorkers → AreLimits layout.spaces instance start limits
       → ObeysInSomeOrder instance.tree instance.assigned work workers other → greatest_limit workers limits ≤ length_of work other
   none_below workers start other limits known are obeys =
       subst (λ n. n ≤ length_of work other) (sym (is_lower_bound workers start limits are))
@@ -110,7 +119,7 @@ module _ (instance : Instance) (layout : Hierarchy) (under : IsUnder layout inst
     within = λ k t is. absurd (no_number k is);
   }
 
-  pub not_below : (start : ℕ → ℕ) (limits : Limits) → IsLeast (served_first instance start) work start → AreLimits instance start limits
+  pub not_below : (start : ℕ → ℕ) (limits : Limits) → IsLeast (served_first instance start) work start → AreLimits layout.spaces instance start limits
       → greatest_limit None limits ≤ limits.order
   not_below start limits least are =
       subst (λ n. greatest_limit None limits ≤ n) (sym are.order) (none_below None start start limits tt are (obeys_itself start least.obeys))
@@ -129,21 +138,18 @@ module _ (instance : Instance) (layout : Hierarchy) (under : IsUnder layout inst
       (least_started instance.tree instance.assigned (timings_of instance.trace.messages) start (sym count) V4 are least)
       (serving_obeys instance.tree instance.assigned work count runs start other keeps)
 
-  pub shortest : (start other : ℕ → ℕ) (limits : Limits) → IsLeast (served_first instance start) work start → AreLimits instance start limits
+  pub shortest : (start other : ℕ → ℕ) (limits : Limits) → IsLeast (served_first instance start) work start → AreLimits layout.spaces instance start limits
       → KeepsOrderWhere (has_clients instance.trace.version) instance start other → limits.order ≤ length_of work other
   shortest start other limits least are keeps =
       subst (λ n. n ≤ length_of work other) (sym are.order) (shortest_by instance.trace.version start other timings least keeps)
 
-  known : All (λ a. a < length instance.tree) instance.assigned
-  known k d within =
-      let here = affinity_known layout under.is_layout instance.trace instance.assigned under.is_trace under.fits under.assignment (suc k) (omega arith)
-      (omega (arith, within, under.assignment.count)) in
-      let at : suc k - 1 ≡ k = omega arith in
-      subst (λ a. a < length instance.tree) (ap (λ i. get_or instance.assigned i 0) at ∙ get_or_default instance.assigned k 0 d within)
-      (subst (λ tree. affinity_of instance.assigned (suc k) < length tree) under.tree here)
+  known : AreKnown instance.tree instance.assigned
+  known =
+      subst (λ tree. AreKnown tree instance.assigned) under.tree
+      (are_known layout under.is_layout instance.trace instance.assigned under.is_trace under.fits under.assignment)
 
   -- where all messages may start at once
-  module _ (free : All StartsAtOnce instance.trace.messages) where
+  module _ (unlocked : AreUnlocked instance.assigned) (free : All StartsAtOnce instance.trace.messages) where
     at_once : (m : ℕ) → IsAmongFirst (length instance.trace.messages) m → StartsAtOnce (message_of instance.trace.messages m)
     at_once m number = free (m - 1) no_message (omega (arith, number.from, number.to))
 
@@ -153,10 +159,10 @@ module _ (instance : Instance) (layout : Hierarchy) (under : IsUnder layout inst
         let message = at_once m there in
         floor_alone instance.trace.messages m there message.no_client message.no_think ∙ message.no_release
 
-    pub reached : TreeIsReached instance.tree instance.assigned work → (start : ℕ → ℕ) (limits : Limits) → AreLimits instance start limits
+    pub reached : TreeIsReached instance.tree instance.assigned work → (start : ℕ → ℕ) (limits : Limits) → AreLimits layout.spaces instance start limits
         → (other : ℕ → ℕ) × ObeysInSomeOrder instance.tree instance.assigned work None other × (length_of work other ≡ limits.path.ticks)
     reached law start limits are =
-        let met = law is_tree count known
+        let met = law is_tree count known unlocked
         (timings_alone instance.trace.messages (λ m number. let message = at_once m number in message.no_client)
         (λ m number. let message = at_once m number in message.no_list)) no_floor in
         (tree_start instance.tree instance.assigned work, met.0, met.1 ∙ sym are.path.ticks)
@@ -223,35 +229,39 @@ module _ (used : Cell → ℕ) where
   most_of_is_one (Some one) None p q = absurd (omega (arith, q one.cell, p.ticks, p.some))
   most_of_is_one (Some one) (Some other) p q = ap Some (most_is_one one other p q)
 
-limits_with : ℕ → Peak → Peak → Option CellUse → Option CellUse → Peak → ℕ → Limits
-limits_with total client after writes cell path order =
-    record { total = total; client = client; after = after; writes = writes; cell = cell; path = path; order = order }
+limits_with : ℕ → Peak → Peak → Option CellUse → Option CellUse → Peak → Option CellUse → ℕ → Limits
+limits_with total client after writes cell path locks order =
+    record { total = total; client = client; after = after; writes = writes; cell = cell; path = path; locks = locks; order = order }
 
-same_limits : (one other : Limits) → one.total ≡ other.total → one.client ≡ other.client → one.after ≡ other.after → one.writes ≡ other.writes → one.cell ≡ other.cell → one.path ≡ other.path → one.order ≡ other.order → one ≡ other
+same_limits : (one other : Limits) → one.total ≡ other.total → one.client ≡ other.client → one.after ≡ other.after → one.writes ≡ other.writes → one.cell ≡ other.cell
+    → one.path ≡ other.path → one.locks ≡ other.locks → one.order ≡ other.order → one ≡ other
 unfolding limits_with
-same_limits one other totals clients lists writes cells paths orders =
-    ap (λ t. limits_with t one.client one.after one.writes one.cell one.path one.order) totals
-    ∙ ap (λ c. limits_with other.total c one.after one.writes one.cell one.path one.order) clients
-    ∙ ap (λ a. limits_with other.total other.client a one.writes one.cell one.path one.order) lists
-    ∙ ap (λ c. limits_with other.total other.client other.after c one.cell one.path one.order) writes
-    ∙ ap (λ c. limits_with other.total other.client other.after other.writes c one.path one.order) cells
-    ∙ ap (λ p. limits_with other.total other.client other.after other.writes other.cell p one.order) paths
-    ∙ ap (limits_with other.total other.client other.after other.writes other.cell other.path) orders
+same_limits one other totals clients lists writes cells paths locks orders =
+    ap (λ t. limits_with t one.client one.after one.writes one.cell one.path one.locks one.order) totals
+    ∙ ap (λ c. limits_with other.total c one.after one.writes one.cell one.path one.locks one.order) clients
+    ∙ ap (λ a. limits_with other.total other.client a one.writes one.cell one.path one.locks one.order) lists
+    ∙ ap (λ c. limits_with other.total other.client other.after c one.cell one.path one.locks one.order) writes
+    ∙ ap (λ c. limits_with other.total other.client other.after other.writes c one.path one.locks one.order) cells
+    ∙ ap (λ p. limits_with other.total other.client other.after other.writes other.cell p one.locks one.order) paths
+    ∙ ap (λ l. limits_with other.total other.client other.after other.writes other.cell other.path l one.order) locks
+    ∙ ap (limits_with other.total other.client other.after other.writes other.cell other.path other.locks) orders
 
 pub limits_are_one : (instance : Instance) → LimitsAreOne instance
-limits_are_one instance start other one another same p q =
+limits_are_one instance spaces start other one another same p q =
     let work = work_of_instance instance in
+    let messages = instance.trace.messages in
     same_limits one another (p.total ∙ sym q.total)
-    (peak_is_one (earliest_finish (client_work_of_messages instance.trace.messages)) 1 work.count one.client another.client p.client q.client)
+    (peak_is_one (earliest_finish (client_work_of_messages messages)) 1 work.count one.client another.client p.client q.client)
     (peak_is_one (earliest_finish work) 1 work.count one.after another.after p.after q.after)
-    (most_of_is_one (ticks_shared instance.trace.messages) one.writes another.writes p.writes q.writes)
-    (most_of_is_one (ticks_on instance.trace.messages) one.cell another.cell p.cell q.cell)
+    (most_of_is_one (ticks_shared messages) one.writes another.writes p.writes q.writes)
+    (most_of_is_one (ticks_needed spaces messages) one.cell another.cell p.cell q.cell)
     (peak_is_one (path_cost instance.tree instance.assigned work) 0 (length instance.tree) one.path another.path p.path q.path)
+    (most_of_is_one (ticks_locked spaces messages instance.assigned) one.locks another.locks p.locks q.locks)
     (p.order ∙ same_length work start other same ∙ sym q.order)
 
 -- where all lists are empty, `after` is `clients`
 pub no_lists_add_nothing : (instance : Instance) → NoListsAddNothing instance
-no_lists_add_nothing instance start limits are none =
+no_lists_add_nothing instance spaces start limits are none =
     let clients = client_work_of_messages instance.trace.messages in
     let work = work_of_instance instance in
     let same = finish_same (timings_of instance.trace.messages) (awaits_client instance.trace.messages (λ m number. none (m - 1) no_message (omega (arith, number.from, number.to)))) in
@@ -271,7 +281,7 @@ pub order_is_not_below : (instance : Instance) → OrderIsNotBelow instance
 order_is_not_below instance layout start limits under least are = not_below instance layout under start limits least are
 
 pub path_is_reached : (instance : Instance) → TreeIsReached instance.tree instance.assigned (work_of_instance instance) → PathIsReached instance
-path_is_reached instance law layout start limits under are free = reached instance layout under free law start limits are
+path_is_reached instance law layout start limits under are unlocked free = reached instance layout under unlocked free law start limits are
 
 pub clients_finish : (work : Work) → ClientsFinish work
 clients_finish work follows m number = earliest_is work follows m number

@@ -4,14 +4,13 @@ use Rattle.std.specs.List.{list_any}
 use Rattle.std.proofs.lemmas.Bool.{cases_Bool, and_parts, cond-false, cond-true}
 use Rattle.std.proofs.lemmas.List.Folds.{list_any-append}
 use Rattle.std.proofs.lemmas.List.Sums.{sum_by-cons}
-use Rattle.waff_model.specs.Cells.{cells_of, cells_of_op}
+use Rattle.waff_model.specs.Cells.{cells_of, cells_of_op, cells_written, cells_written_by}
 use Rattle.waff_model.specs.declared.cell.Cell.{Cell}
 use Rattle.waff_model.specs.declared.message.Message.{Message}
 use Rattle.waff_model.specs.declared.op.Op.{Op}
 use Rattle.waff_model.specs.declared.op.Op.TheVariants.{Set, Add, Copy, Swap, Read}
 use Rattle.waff_limits.specs.Data.{cost_on, is_cell, ticks_on}
-use Rattle.waff_limits.specs.Laws.{WritesBoundData}
-use Rattle.waff_limits.specs.Writes.{cells_written, cells_written_by, only_reads, read_cost, ticks_shared, writes, written_cost}
+use Rattle.waff_limits.specs.Writes.{only_reads, read_cost, ticks_shared, writes, written_cost}
 
 or_more : (a b : Bool) → (a || false) ≡ true → (a || b) ≡ true
 or_more true b is = refl
@@ -72,10 +71,3 @@ shared_within (m ∷ messages) cell =
     let used = sum_by-cons (cost_on cell) m messages in
     let written = sum_by-cons (written_cost cell) m messages in
     omega (arith, once cell m, shared_within messages cell, used, written)
-
-pub writes_below : (messages : List Message) → WritesBoundData messages
-writes_below messages None used most other = omega arith
-writes_below messages (Some one) None most none =
-    omega (arith, most.ticks, shared_within messages one.cell, none one.cell, most.some)
-writes_below messages (Some one) (Some two) most other =
-    omega (arith, most.ticks, shared_within messages one.cell, other.most one.cell)

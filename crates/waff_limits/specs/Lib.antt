@@ -10,3 +10,4 @@ pub mod WhyLines
 pub mod LiftedLaws
 pub mod Readings
 pub mod Writes
+pub mod Locks

@@ -1,6 +1,6 @@
 -- What limits a workload, and the lines that tell of it.
 use Rattle.std.specs.Prelude.{◌≡◌, ℕ, ◌==◌, List, [], ◌∷◌, ◌++◌, length, map, Option, Some, None, if◌then◌else◌, codes, decimal}
-use Rattle.waff_model.specs.Layout.{Space}
+use Rattle.waff_model.specs.Layout.{Space, has_locks}
 use Rattle.waff_model.specs.Messages.{Arrivals}
 use Rattle.waff_model.specs.Tree.{Node, name_of}
 use Rattle.waff_model.specs.Versions.{has_after}
@@ -18,25 +18,27 @@ use Rattle.waff_plan.specs.declared.peak.Peak.{Peak}
 use Rattle.waff_plan_text.specs.Ratio.{ratio_field}
 use Rattle.waff_plan_text.specs.Spelling.{worker_field}
 use Rattle.waff_figures.specs.declared.figures.Figures.{Figures}
-use Rattle.waff_limits.specs.Data.{IsMostOf, ticks_on}
+use Rattle.waff_limits.specs.Data.{IsMostOf}
+use Rattle.waff_limits.specs.Locks.{ticks_locked, ticks_needed}
 use Rattle.waff_limits.specs.Writes.{ticks_shared}
 use Rattle.waff_limits.specs.declared.data.CellUse.{CellUse}
 use Rattle.waff_limits.specs.declared.limits.Limits.{Limits}
 
 -- what limits the messages of an instance, of which the unlimited plan has these starts: the sum of their costs, the client that needs
 -- longest, the message that finishes last where each waits for what it awaits alone, by its client or by its list, the cell that is needed
--- longest where those that only read it share it, the cell that is used longest, the affinity that has the most to run in it and above it,
--- and the length of that plan
-pub record AreLimits (instance : Instance) (start : ℕ → ℕ) (limits : Limits) : Type 0 where
+-- longest where those that only read it share it, the cell that is needed longest in these spaces, the affinity that has the most to run in
+-- it and above it, the cell whose lock is needed longest, and the length of that plan
+pub record AreLimits (spaces : List Space) (instance : Instance) (start : ℕ → ℕ) (limits : Limits) : Type 0 where
   pub total : limits.total ≡ total_of (work_of_instance instance)
   pub client : IsPeak (earliest_finish (client_work_of_messages instance.trace.messages)) 1 (work_of_instance instance).count limits.client
   pub after : IsPeak (earliest_finish (work_of_instance instance)) 1 (work_of_instance instance).count limits.after
   pub writes : IsMostOf (ticks_shared instance.trace.messages) limits.writes
-  pub cell : IsMostOf (ticks_on instance.trace.messages) limits.cell
+  pub cell : IsMostOf (ticks_needed spaces instance.trace.messages) limits.cell
   pub path : IsPeak (path_cost instance.tree instance.assigned (work_of_instance instance)) 0 (length instance.tree) limits.path
+  pub locks : IsMostOf (ticks_locked spaces instance.trace.messages instance.assigned) limits.locks
   pub order : limits.order ≡ length_of (work_of_instance instance) start
 
--- how long the cell that is used longest is used, 0 where none is
+-- how long the cell that is needed longest is needed, 0 where none is
 abbrev pub ticks_of : Option CellUse → ℕ
 ticks_of None = 0
 ticks_of (Some found) = found.ticks
@@ -79,6 +81,11 @@ abbrev pub after_lines : Version → ℕ → Peak → List (List (List ℕ))
 after_lines version total after =
     if has_after version then limit_row (codes "after") None total after.ticks (message_field after) ∷ [] else []
 
+-- what messages need of locks, where a space has locks
+abbrev pub lock_lines : List Space → ℕ → Option CellUse → List (List (List ℕ))
+lock_lines spaces total locks =
+    if has_locks spaces then limit_row (codes "locks") None total (ticks_of locks) (cell_field spaces locks) ∷ [] else []
+
 -- what limits whatever the number of workers
 abbrev pub bound_lines : List Space → List Node → Arrivals → Limits → List (List (List ℕ))
 bound_lines spaces tree trace limits =
@@ -87,7 +94,8 @@ bound_lines spaces tree trace limits =
     ++ limit_row (codes "writes") None limits.total (ticks_of limits.writes) (cell_field spaces limits.writes)
     ∷ limit_row (codes "data") None limits.total (ticks_of limits.cell) (cell_field spaces limits.cell)
     ∷ limit_row (codes "tree") None limits.total limits.path.ticks (affinity_field tree limits.path)
-    ∷ limit_row (codes "order") None limits.total limits.order (codes "-")
+    ∷ lock_lines spaces limits.total limits.locks
+    ++ limit_row (codes "order") None limits.total limits.order (codes "-")
     ∷ []
 
 -- all lines: for these numbers of workers what their share is, then what limits whatever their number, and then their plans

@@ -2,6 +2,7 @@
 use Rattle.std.specs.Prelude.{ℕ, List, [], ◌∷◌, if◌then◌else◌, map, codes, decimal}
 use Rattle.waff_model.specs.Layout.{Hierarchy, owner_of}
 use Rattle.waff_read.specs.Spellings.{cell_spelled}
+use Rattle.waff_assign.specs.Held.{Held}
 use Rattle.waff_assign.specs.Order.{affinity_name}
 use Rattle.waff_model.specs.Tree.{name_of}
 use Rattle.waff_model.specs.declared.cell.Cell.{Cell}
@@ -41,7 +42,7 @@ lift_fields layout row =
     ∷ cell_spelled layout.spaces row.first.cell ∷ other_cell layout row.first ∷ []
 
 -- the line of a row: the affinity of its first message, by name its name too, and these fields
-abbrev pub why_row : Grouping → Hierarchy → List ℕ → List (List ℕ) → Row → List (List ℕ)
+abbrev pub why_row : Grouping → Hierarchy → List Held → List (List ℕ) → Row → List (List ℕ)
 why_row Affinity layout assigned names row =
     affinity_name layout.tree assigned row.first.message ∷ lift_fields layout row
 why_row Name layout assigned names row =
@@ -50,6 +51,6 @@ why_row Name layout assigned names row =
 
 -- the lines of the rows
 abbrev pub why_lines : Grouping → Hierarchy
-    → List ℕ → List (List ℕ) → List Row → List (List (List ℕ))
+    → List Held → List (List ℕ) → List Row → List (List (List ℕ))
 why_lines grouping layout assigned names rows =
     why_header grouping ∷ map (why_row grouping layout assigned names) rows

@@ -1,8 +1,8 @@
-//! What holds of the data that messages use, whatever the tree of affinities, and of all that limits a workload. Each law is a function that
+//! What holds of the data that messages use, whatever the hierarchy, and of all that limits a workload. Each law is a function that
 //! does nothing and whose contract is the law.
 
 ghost use Rattle.std.specs.Prelude.{◌≡◌, ℕ, List, Option};
-ghost use Rattle.waff_model.specs.Layout.{Hierarchy};
+ghost use Rattle.waff_model.specs.Layout.{Hierarchy, Space};
 ghost use Rattle.waff_model.specs.declared.cell.Cell.{Cell};
 ghost use Rattle.waff_model.specs.declared.message.Message.{Message};
 ghost use Rattle.waff_assign.specs.Instance.{Instance};
@@ -13,6 +13,7 @@ ghost use Rattle.waff_limits.specs.Laws.{LimitsAreLowerBound, LimitsAreOne, NoLi
 ghost use Rattle.waff_limits.specs.Laws.{NoneIsBelowLimits, OrderIsNotBelow};
 ghost use Rattle.waff_limits.specs.Laws.{OrderIsShortest, PathIsReached, WritesBoundData};
 ghost use Rattle.waff_limits.specs.declared.data.CellUse.{CellUse};
+ghost use Rattle.waff_assign.specs.Held.{Held};
 
 use waff_plan::lower_bound::tree_is_reached;
 
@@ -22,22 +23,22 @@ pub fn most_used_is_one()
         → IsMostOf used other → found ≡ other }
 {}
 
-/// No tree of affinities makes of messages less work in one affinity and above it than they have with one cell: they all run at or above
-/// its owner.
+/// No hierarchy that lets messages share no more makes of them less work in one affinity and above it, or with one lock, than they have with
+/// one cell: where it has no lock they all run at or above its owner, else they use its lock.
 pub fn data_bounds_every_tree()
-    ensures { (layout : Hierarchy) (messages : List Message) (assigned : List ℕ)
-        → DataBoundsTree layout messages assigned }
+    ensures { (spaces : List Space) (layout : Hierarchy) (messages : List Message) (assigned : List Held)
+        → DataBoundsTree spaces layout messages assigned }
 {}
 
-/// Whatever the hierarchy, messages use some cell for as many ticks as they need any cell where those that only read it share it. So the
-/// first is what no hierarchy makes less.
+/// Whatever the hierarchy, messages need some cell for as many ticks as they need any cell where those that only read it share it. So this
+/// is what no tree and no locks make less.
 pub fn writes_bound_data()
-    ensures { (messages : List Message) → WritesBoundData messages }
+    ensures { (spaces : List Space) (messages : List Message) → WritesBoundData spaces messages }
 {}
 
 /// No plan that obeys, for as many workers or without a limit on them, is shorter than the greatest of a worker's share, of what a client
-/// needs, of what messages need that await one another, of the use of a cell and of what runs on a path of affinities, in whatever order it
-/// serves.
+/// needs, of what messages need that await one another, of a cell and of a lock, and of what runs on a path of affinities, in whatever order
+/// it serves.
 pub fn none_is_below_limits()
     ensures { (instance : Instance) → NoneIsBelowLimits instance }
 {}
@@ -67,7 +68,7 @@ pub fn order_is_not_below()
     ensures { (instance : Instance) → OrderIsNotBelow instance }
 {}
 
-/// Where no message has a release, a think time, a client or a list, a plan that obeys in some order is as long as what runs on the longest
+/// Where no message has a release, a think time, a client or a list or uses a lock, a plan that obeys in some order is as long as what runs on the longest
 /// path of affinities.
 pub fn path_is_reached()
     ensures { (instance : Instance) → PathIsReached instance }

@@ -8,17 +8,17 @@ ghost use Rattle.waff_model.specs.Numbers.{IsAmongFirst};
 ghost use Rattle.waff_model.specs.Tree.{AtOrAbove, parent_of};
 ghost use Rattle.waff_model.specs.declared.cell.Cell.{Cell as CellOf};
 ghost use Rattle.waff_model.specs.declared.limits.TheConstants.{MAX_MESSAGES};
-ghost use Rattle.waff_assign.specs.Lowest.{IsAssignment, IsInFootprint, IsLowest};
+ghost use Rattle.waff_assign.specs.Lowest.{IsAssignment, IsLowest, IsUnlockedAmong};
 ghost use Rattle.waff_limits.specs.Jumps.{AreJumps};
 ghost use Rattle.waff_limits.specs.Lifted.{AreInner, AreLifting, AreLifts, IsFirst, IsFirstAmong, IsLift};
 ghost use Rattle.waff_limits.specs.Data.{ComesBefore};
-ghost use Rattle.waff_limits.specs.Lifted.{IsOutside, IsSooner, IsTold, RunsHigh};
+ghost use Rattle.waff_limits.specs.Lifted.{IsNotBelow, IsOutside, IsSooner, IsTold, RunsHigh};
 
 use crate::inner::inner;
 use crate::jumps::{Jump, jumps, next_below};
 use crate::laid::Laid;
 use std::alloc::{AllocError, Global};
-use waff_model::{AffinityId, Cell, Layout, Op, Ops};
+use waff_model::{AffinityId, Cell, Layout, Locking, Op, Ops};
 
 /// A message that runs high: others lie below its affinity.
 #[derive(Clone, Copy)]
@@ -26,9 +26,9 @@ pub struct Lift {
     pub message: u32,
     /// What it costs, in ticks.
     pub cost: u32,
-    /// The first cell of its footprint.
+    /// The first cell without a lock of its footprint.
     pub cell: Cell,
-    /// The first cell of it whose owner lifts the message so high from that of `cell`: `cell` itself where its own owner is the affinity.
+    /// The first such cell whose owner lifts the message so high from that of `cell`: `cell` itself where its own owner is the affinity.
     pub other: Cell,
 }
 
@@ -90,7 +90,7 @@ fn lift_of(laid: &Laid<'_>, inner: &[bool], jumps: &[Jump], n: u32) -> Option<Li
         × IsLift laid.now.layout.now laid.now.case.trace.now.messages laid.now.case.assigned.now lift) }
 {
     let message = laid.case.trace.message(n);
-    let affinity = laid.case.assigned.of(n);
+    let affinity = laid.case.assigned.affinity(n)?;
     if !inner[affinity.0 as usize] {
         return None;
     }
@@ -104,14 +104,14 @@ fn lift_of(laid: &Laid<'_>, inner: &[bool], jumps: &[Jump], n: u32) -> Option<Li
     })
 }
 
-/// The cell that lifts to their affinity with the first that the operations name.
+/// The cell that lifts to their affinity with the first one without a lock that the operations name.
 fn other_cell(layout: &Layout, jumps: &[Jump], ops: &Ops, affinity: AffinityId, first: Cell) -> Cell
     requires jumps { AreJumps layout.now.tree jumps.now }
     requires cells { All (IsCell layout.now.spaces) (cells_of ops.now) }
-    requires lowest { IsLowest layout.now (IsInFootprint ops.now) affinity.0 }
-    requires first { IsFirst (IsInFootprint ops.now) first }
+    requires lowest { IsLowest layout.now (IsUnlockedAmong layout.now (cells_of ops.now)) affinity.0 }
+    requires first { IsFirst (IsUnlockedAmong layout.now (cells_of ops.now)) first }
     requires within { IsCell layout.now.spaces first }
-    ensures lifting { AreLifting layout.now (IsInFootprint ops.now) affinity.0 first result }
+    ensures lifting { AreLifting layout.now (IsUnlockedAmong layout.now (cells_of ops.now)) affinity.0 first result }
     ensures within { IsCell layout.now.spaces result }
 {
     // Its contract tells `IsLayout`.
@@ -124,21 +124,21 @@ fn other_cell(layout: &Layout, jumps: &[Jump], ops: &Ops, affinity: AffinityId, 
     lifting_cell(layout, ops, affinity, first, below)
 }
 
-/// The first cell that the operations, of which there is one at least, name.
+/// The first cell without a lock that the operations name, where there is one.
 fn first_cell(layout: &Layout, ops: &Ops) -> Cell
-    requires some { 1 ≤ length ops.now }
+    requires some { (cell : CellOf) × IsUnlockedAmong layout.now (cells_of ops.now) cell }
     requires cells { All (IsCell layout.now.spaces) (cells_of ops.now) }
-    ensures first { IsFirst (IsInFootprint ops.now) result }
+    ensures first { IsFirst (IsUnlockedAmong layout.now (cells_of ops.now)) result }
     ensures within { IsCell layout.now.spaces result }
 {
     match first_outside(layout, ops, None) {
         Some(cell) => cell,
-        None => unreachable!("an operation names a cell"),
+        None => unreachable!("an operation names a cell without a lock"),
     }
 }
 
-/// The first cell that the operations name with an owner that is not at or below the affinity `below`, which is the next one
-/// below theirs on the way to the owner of their first cell.
+/// The first cell without a lock that the operations name with an owner that is not at or below the affinity `below`, which is the next
+/// one below theirs on the way to the owner of the first.
 fn lifting_cell(
     layout: &Layout,
     ops: &Ops,
@@ -147,12 +147,12 @@ fn lifting_cell(
     below: AffinityId,
 ) -> Cell
     requires cells { All (IsCell layout.now.spaces) (cells_of ops.now) }
-    requires lowest { IsLowest layout.now (IsInFootprint ops.now) affinity.0 }
-    requires first { IsFirst (IsInFootprint ops.now) first }
+    requires lowest { IsLowest layout.now (IsUnlockedAmong layout.now (cells_of ops.now)) affinity.0 }
+    requires first { IsFirst (IsUnlockedAmong layout.now (cells_of ops.now)) first }
     requires below { parent_of layout.now.tree below.0 ≡ Some affinity.0 }
     requires above { AtOrAbove layout.now.tree below.0 (owner_of layout.now.spaces first) }
     requires within { below.0 < length layout.now.tree }
-    ensures lifting { AreLifting layout.now (IsInFootprint ops.now) affinity.0 first result }
+    ensures lifting { AreLifting layout.now (IsUnlockedAmong layout.now (cells_of ops.now)) affinity.0 first result }
     ensures within { IsCell layout.now.spaces result }
 {
     // Its contract tells `IsLayout`.
@@ -163,7 +163,8 @@ fn lifting_cell(
     }
 }
 
-/// The first cell that the operations name with an owner that is not at or below the affinity; of all cells where there is none.
+/// The first cell without a lock that the operations name with an owner that is not at or below the affinity; of all such cells where
+/// there is none.
 fn first_outside(layout: &Layout, ops: &Ops, below: Option<AffinityId>) -> Option<Cell>
     requires cells { All (IsCell layout.now.spaces) (cells_of ops.now) }
     requires within { IfSome below (λ a. a.0 < length layout.now.tree) }
@@ -248,12 +249,22 @@ fn comes_before(cell: Cell, other: Cell) -> bool
     cell < other
 }
 
-/// Whether the owner of the cell is not at or below the affinity, if there is one.
+/// Whether the cell has no lock, and its owner is not at or below the affinity, if there is one.
 #[inline(always)]
 fn is_outside(layout: &Layout, below: Option<AffinityId>, cell: Cell) -> bool
     requires cell { IsCell layout.now.spaces cell }
     requires within { IfSome below (λ a. a.0 < length layout.now.tree) }
     ensures { IsTrue result ↔ IsOutside layout.now (option_map (λ a. a.0) below) cell }
+{
+    layout.locking(cell) == Locking::Unlocked && is_not_below(layout, below, cell)
+}
+
+/// Whether the owner of the cell is not at or below the affinity, if there is one.
+#[inline(always)]
+fn is_not_below(layout: &Layout, below: Option<AffinityId>, cell: Cell) -> bool
+    requires cell { IsCell layout.now.spaces cell }
+    requires within { IfSome below (λ a. a.0 < length layout.now.tree) }
+    ensures { IsTrue result ↔ IsNotBelow layout.now (option_map (λ a. a.0) below) cell }
 {
     match below {
         Some(below) => !layout.tree().at_or_above(below, layout.owner(cell)),

@@ -13,6 +13,7 @@ ghost use Rattle.waff_limits.specs.LiftedLaws.{AloneIsOwner, AreTold, LiftingIsO
 ghost use Rattle.waff_limits.specs.WhyRows.{AreRows};
 ghost use Rattle.waff_limits.specs.declared.lifted.Lift.{Lift};
 ghost use Rattle.waff_limits.specs.declared.why_rows.Row.{Row};
+ghost use Rattle.waff_assign.specs.Held.{Held};
 
 /// Whatever a message uses, two of its cells lift it to its affinity: the affinity is the lowest at or above their owners.
 pub fn some_cells_lift()
@@ -31,7 +32,7 @@ pub fn alone_is_owner()
 
 /// What is told of the messages of a trace that run high is one list.
 pub fn lifts_are_one()
-    ensures equal { (layout : Hierarchy) (messages : List Message) (assigned : List ℕ)
+    ensures equal { (layout : Hierarchy) (messages : List Message) (assigned : List Held)
         → AtMostOne (AreLifts layout messages assigned) }
 {}
 

@@ -11,7 +11,7 @@ ghost use Rattle.waff_plan.specs.Planned.{planned_starts};
 ghost use Rattle.waff_plan_text.specs.Lines.{Adds, line_text, text_of};
 ghost use Rattle.waff_limits.specs.Limits.{AreLimits, affinity_field, after_lines, bound_lines};
 ghost use Rattle.waff_limits.specs.Limits.{cell_field, client_field, limit_row, limits_header};
-ghost use Rattle.waff_limits.specs.Limits.{limits_lines, planned_row, ticks_of, work_row};
+ghost use Rattle.waff_limits.specs.Limits.{limits_lines, lock_lines, planned_row, ticks_of, work_row};
 
 use crate::cell_text::push_cell;
 use crate::data::CellUse;
@@ -33,7 +33,7 @@ pub fn limits_text(
     listed: &[Figures],
 ) -> Result<String, AllocError>
     requires fits { unlimited.now.case.trace.now.sizes ≡ sizes_of layout.now.spaces }
-    requires limits { AreLimits (instance_of unlimited.now.case)
+    requires limits { AreLimits layout.now.spaces (instance_of unlimited.now.case)
         (planned_starts unlimited.now) limits.now }
     ensures { IfOk result (λ text. string_bytes text
         ≡ text_of (limits_lines layout.now.spaces unlimited.now.case.tree.now
@@ -81,7 +81,7 @@ fn push_bounds(
     limits: &Limits,
 ) -> Result<(), AllocError>
     requires fits { unlimited.now.case.trace.now.sizes ≡ sizes_of layout.now.spaces }
-    requires limits { AreLimits (instance_of unlimited.now.case)
+    requires limits { AreLimits layout.now.spaces (instance_of unlimited.now.case)
         (planned_starts unlimited.now) limits.now }
     ensures { OnOk result (Adds text.old text.new (text_of (bound_lines layout.now.spaces
         unlimited.now.case.tree.now unlimited.now.case.trace.now limits.now))) }
@@ -93,6 +93,7 @@ fn push_bounds(
         writes,
         cell,
         path,
+        locks,
         order,
     } = *limits;
     let case = &unlimited.case;
@@ -104,6 +105,7 @@ fn push_bounds(
     push_data(text, alloc, layout, "data", total, cell)?;
     let name = affinity_name(case.tree, path);
     push_row(text, "tree", None, total, path.ticks, name)?;
+    push_locks(text, alloc, layout, total, locks)?;
     push_row(text, "order", None, total, order, "-")?;
     Ok(())
 }
@@ -142,7 +144,7 @@ fn client_name(trace: &Trace, peak: Peak) -> &str
     }
 }
 
-/// The name of the affinity with the greatest sum, `-` where there is no message.
+/// The name of the affinity with the greatest sum, `-` where no message has an affinity.
 fn affinity_name(tree: &Tree, peak: Peak) -> &str
     requires known { 0 < peak.ticks → peak.at < length tree.now }
     ensures { result.now ≡ affinity_field tree.now peak }
@@ -177,6 +179,24 @@ fn push_data(
             pushed
         }
         None => push_row(text, limit, None, total, 0, "-"),
+    }
+}
+
+/// Appends the line of what messages need of locks, where a space has locks.
+fn push_locks(
+    text: &mut String,
+    alloc: Global,
+    layout: &Layout,
+    total: u64,
+    locks: Option<CellUse>,
+) -> Result<(), AllocError>
+    requires known { IfSome locks (λ found. IsCell layout.now.spaces found.cell) }
+    ensures { OnOk result (Adds text.old text.new (text_of (lock_lines layout.now.spaces total locks))) }
+{
+    if layout.has_locks() {
+        push_data(text, alloc, layout, "locks", total, locks)
+    } else {
+        Ok(())
     }
 }
 

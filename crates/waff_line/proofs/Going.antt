@@ -3,7 +3,8 @@ use Rattle.std.proofs.Common.{◌≡◌, ℕ, ◌-◌, ◌≤◌, true, false, L
 use Rattle.std.proofs.lemmas.List.{map_push}
 use Rattle.waff_model.specs.Tree.{Node}
 use Rattle.waff_model.specs.declared.preorder.Span.{Span}
-use Rattle.waff_assign.specs.Order.{affinity_of}
+use Rattle.waff_assign.specs.Held.{Held}
+use Rattle.waff_assign.specs.Order.{held_of}
 use Rattle.waff_order.specs.Joined.{Joined, HaveJoined}
 use Rattle.waff_waits.specs.Waits.{IsFree, WhoWaits, waiting_for}
 use Rattle.waff_plan.specs.Timing.{work_of}
@@ -65,14 +66,13 @@ queue_ended q n h staffed reached m now running going awaits due gone opened =
     }
 
 -- the order of a case by number
-pub first_more : (tree : List Node) (spans after : List Span) (assigned items more : List ℕ) (m a : ℕ) (joining : Joined)
-    → after ≡ spans → more ≡ items ++ m ∷ [] → a ≡ affinity_of assigned m
-    → HaveJoined tree spans (map (affinity_of assigned) items ++ a ∷ []) joining → HaveJoined tree after (map (affinity_of assigned) more) joining
-first_more tree spans after assigned items more m a joining spans_is more_is a_is have =
-    subst (λ (ss : List Span). HaveJoined tree ss (map (affinity_of assigned) more) joining) (sym spans_is)
-    (subst (λ (ms : List ℕ). HaveJoined tree spans (map (affinity_of assigned) ms) joining) (sym more_is)
-    (subst (λ (xs : List ℕ). HaveJoined tree spans xs joining) (sym (map_push (affinity_of assigned) items m))
-    (subst (λ (x : ℕ). HaveJoined tree spans (map (affinity_of assigned) items ++ x ∷ []) joining) a_is have)))
+pub first_more : (tree : List Node) (spans after : List Span) (assigned : List Held) (items more : List ℕ) (m : ℕ) (joining : Joined)
+    → after ≡ spans → more ≡ items ++ m ∷ []
+    → HaveJoined tree spans (map (held_of assigned) items ++ held_of assigned m ∷ []) joining → HaveJoined tree after (map (held_of assigned) more) joining
+first_more tree spans after assigned items more m joining spans_is more_is have =
+    subst (λ (ss : List Span). HaveJoined tree ss (map (held_of assigned) more) joining) (sym spans_is)
+    (subst (λ (ms : List ℕ). HaveJoined tree spans (map (held_of assigned) ms) joining) (sym more_is)
+    (subst (λ (xs : List Held). HaveJoined tree spans xs joining) (sym (map_push (held_of assigned) items m)) have))
 
 -- when a run begins
 abbrev pub fresh : ℕ → State

@@ -6,10 +6,13 @@ use Rattle.std.proofs.lemmas.List.{length-map, map-id}
 use Rattle.std.proofs.lemmas.List.FromFn.{map-range_with_len_more}
 use Rattle.std.proofs.lemmas.List.Elements.{Contains-get_or}
 use Rattle.std.proofs.lemmas.List.Sorted.{Contains-permutation, IsPermutation-sym}
+use Rattle.waff_model.specs.Preorder.{AreNested}
+use Rattle.waff_model.specs.Tree.{Node}
 use Rattle.waff_model.specs.Versions.{has_clients}
 use Rattle.waff_model.specs.declared.message.Version.{Version}
 use Rattle.waff_model.specs.declared.preorder.Span.{Span}
-use Rattle.waff_assign.specs.Order.{affinity_of}
+use Rattle.waff_assign.specs.Held.{AreKnown, Held, IsHeldWithin, nothing}
+use Rattle.waff_assign.specs.Order.{held_of}
 use Rattle.waff_assign.specs.declared.case.Case.{Case}
 use Rattle.waff_order.specs.Joined.{Joined, HaveJoined}
 use Rattle.waff_order.specs.Needs.{IsNeed}
@@ -44,7 +47,7 @@ first_by_number version count none = cond-false (has_clients version) [] (range_
 pub lined_opening : (course : Course) (spans : List Span) (joining : Joined) (messages : List ℕ) (due : List (ℕ × ℕ))
     → (has_clients course.version ≡ false → AwaitsNone course.work) → course.work.count ≡ length course.assigned
     → messages ≡ first_joined course.version (length course.assigned)
-    → HaveJoined course.tree spans (map (affinity_of course.assigned) messages) joining → AreFirstDue course.work course.work.count due
+    → HaveJoined course.tree spans (map (held_of course.assigned) messages) joining → AreFirstDue course.work course.work.count due
     → IsLined course (opening course) spans joining messages (latecomers course.version due)
 lined_opening course spans joining messages due alone many are have first = elim (cases_Bool (has_clients course.version)) [
   | inl has ↦
@@ -52,14 +55,14 @@ lined_opening course spans joining messages due alone many are have first = elim
       subst (λ ms. IsLined course (opening course) spans joining ms (latecomers course.version due)) (sym empty)
       (subst (λ ws. IsLined course (opening course) spans joining [] ws) (sym (latecomers_all course.version due has))
       (lined_opening_by_issue course spans joining has due first
-      (subst (λ ms. HaveJoined course.tree spans (map (affinity_of course.assigned) ms) joining) empty have)))
+      (subst (λ ms. HaveJoined course.tree spans (map (held_of course.assigned) ms) joining) empty have)))
   | inr none ↦
       let all : messages ≡ range_with_len 1 course.work.count
       = are ∙ first_by_number course.version (length course.assigned) none ∙ ap (λ n. range_with_len 1 n) (sym many) in
       subst (λ ms. IsLined course (opening course) spans joining ms (latecomers course.version due)) (sym all)
       (subst (λ ws. IsLined course (opening course) spans joining (range_with_len 1 course.work.count) ws) (sym (latecomers_none course.version due none))
       (lined_opening_by_number course spans joining none (alone none)
-      (subst (λ ms. HaveJoined course.tree spans (map (affinity_of course.assigned) ms) joining) all have)))
+      (subst (λ ms. HaveJoined course.tree spans (map (held_of course.assigned) ms) joining) all have)))
 ]
 
 -- when a message ends
@@ -80,6 +83,14 @@ lined_ended course s is m now sound running spans joining messages w after await
       (latecomers_none course.version old none ∙ sym (latecomers_none course.version new none))
       (lined_ended_by_number course s spans joining messages (latecomers course.version old) h is m now sound running none)
 ]
+
+-- what a message holds is of the tree, and so of the spans
+pub held_within : (tree : List Node) (spans : List Span) (assigned : List Held) → AreNested tree spans → AreKnown tree assigned
+    → (m : ℕ) → IsAmongFirst (length assigned) m → IsHeldWithin (length spans) (held_of assigned m)
+held_within tree spans assigned nested known m number =
+    let from = number.from in
+    let to = number.to in
+    subst (λ (n : ℕ). IsHeldWithin n (held_of assigned m)) (sym nested.count) (known (m - 1) nothing (omega (arith, from, to)))
 
 -- one more event
 runs_more : (course : Course) (s : State) (events : List Event) (t : State) (event : Event) (u : State)
@@ -130,7 +141,7 @@ module _ (q : Queue) (workers : ℕ) (s : State) (h : IsQueue q workers s) where
     line = h.lined going
 
     pub counts : length q.order.joining.needs ≡ length messages
-    counts = line.joined.needs.count ∙ length-map messages (affinity_of q.case.assigned.now)
+    counts = line.joined.needs.count ∙ length-map messages (held_of q.case.assigned.now)
 
     module _ (place : ℕ) (number : IsAmongFirst (length messages) place) where
       joins : Contains messages (served_at messages place)
@@ -182,7 +193,7 @@ module _ (q : Queue) (workers : ℕ) (s : State) (h : IsQueue q workers s) where
 
       pub joins_more : r.0 < s.clock → (after : Joined)
           → HaveJoined q.case.tree.now q.order.spans.now
-          (map (affinity_of q.case.assigned.now) messages ++ affinity_of q.case.assigned.now r.1 ∷ []) after
+          (map (held_of q.case.assigned.now) messages ++ held_of q.case.assigned.now r.1 ∷ []) after
           → IsLined course s q.order.spans.now after (messages ++ r.1 ∷ []) (latecomers q.case.trace.now.version rest)
       joins_more passed after have =
           subst (λ ws. IsLined course s q.order.spans.now after (messages ++ r.1 ∷ []) ws) (sym (latecomers_all q.case.trace.now.version rest has))

@@ -4,9 +4,9 @@ use Rattle.std.proofs.lemmas.Bool.{cases_lt, cases_order}
 use Rattle.std.proofs.lemmas.List.{get_or-map, get_or_default, get_or_append_left, get_or_push, length_push, length-map, map_push}
 use Rattle.std.proofs.lemmas.List.Elements.{Contains-get_or, Contains-push, Contains-push_cases, Contains-append_left}
 use Rattle.std.proofs.lemmas.List.Sorted.{Contains-permutation, IsPermutation-sym}
-use Rattle.waff_model.specs.Tree.{Excludes}
 use Rattle.waff_model.specs.declared.preorder.Span.{Span}
-use Rattle.waff_assign.specs.Order.{affinity_of, IsOrdered, PathBy}
+use Rattle.waff_assign.specs.Held.{ExcludeEachOther, nothing}
+use Rattle.waff_assign.specs.Order.{held_of, IsOrdered, PathBy}
 use Rattle.waff_order.specs.Joined.{Joined, HaveJoined}
 use Rattle.waff_order.specs.Needs.{IsNeed}
 use Rattle.waff_plan.specs.Due.{IsDueFirst, LeavesDue}
@@ -54,20 +54,20 @@ not_before key i j (inr one) (inr two) = let less = one.1 in let more = two.1 in
 
 module _ (course : Course) (s : State) (spans : List Span) (joining : Joined) (messages : List ℕ) (waits : List (ℕ × ℕ))
     (h : IsLined course s spans joining messages waits) where
-  -- the affinity at a place is that of its message
-  affinity_at : (p : ℕ) → 1 ≤ p → p ≤ length messages
-      → affinity_of (map (affinity_of course.assigned) messages) p ≡ affinity_of course.assigned (served_at messages p)
-  affinity_at p from to = get_or-map (affinity_of course.assigned) messages (p - 1) 0 0 (omega (arith, from, to))
+  -- what is held at a place is what its message holds
+  held_at : (p : ℕ) → 1 ≤ p → p ≤ length messages
+      → held_of (map (held_of course.assigned) messages) p ≡ held_of course.assigned (served_at messages p)
+  held_at p from to = get_or-map (held_of course.assigned) messages (p - 1) 0 nothing (omega (arith, from, to))
 
   there : (p : ℕ) → 1 ≤ p → p ≤ length messages → Contains messages (served_at messages p)
   there p from to = Contains-get_or messages (p - 1) 0 (omega (arith, from, to))
 
   -- where a message that is needed has ended, so have those that come before it and exclude it
   module _ (sound : Sound course s) where
-    ended_before : (i k : ℕ) → HasEnded s (served_at messages k) → IsOrdered course.tree (map (affinity_of course.assigned) messages) i k
+    ended_before : (i k : ℕ) → HasEnded s (served_at messages k) → IsOrdered course.tree (map (held_of course.assigned) messages) i k
         → HasEnded s (served_at messages i)
     ended_before i k ended ordered =
-        let long = length-map messages (affinity_of course.assigned) in
+        let long = length-map messages (held_of course.assigned) in
         let first = ordered.from in
         let less = ordered.earlier in
         let last = ordered.to in
@@ -82,10 +82,10 @@ module _ (course : Course) (s : State) (spans : List Span) (joining : Joined) (m
                 first = (h.each (served_at messages i) at_i).0;
                 second = (h.each (served_at messages k) at_k).0;
                 precedes = before;
-                excludes = subst (λ a. Excludes course.tree a (affinity_of course.assigned (served_at messages k)))
-                    (affinity_at i first (omega (arith, less, last, long)))
-                    (subst (λ a. Excludes course.tree (affinity_of (map (affinity_of course.assigned) messages) i) a)
-                    (affinity_at k (omega (arith, first, less)) (omega (arith, last, long))) ordered.excludes);
+                excludes = subst (λ held. ExcludeEachOther course.tree held (held_of course.assigned (served_at messages k)))
+                    (held_at i first (omega (arith, less, last, long)))
+                    (subst (λ held. ExcludeEachOther course.tree (held_of (map (held_of course.assigned) messages) i) held)
+                    (held_at k (omega (arith, first, less)) (omega (arith, last, long))) ordered.excludes);
               } in
               ((sound.begun (served_at messages k) (sound.ended (served_at messages k) ended).begun).after
               (served_at messages i) (h.each (served_at messages i) at_i).1 serves).0
@@ -105,7 +105,7 @@ module _ (course : Course) (s : State) (spans : List Span) (joining : Joined) (m
           absurd (not_before (key_in course s) (served_at messages p) i
           (h.later (served_at messages p) (key_in course s i, i) (there p number.from number.to) waits_on) served.precedes)
       | inl (k, within, is) ↦
-          let long = length-map messages (affinity_of course.assigned) in
+          let long = length-map messages (held_of course.assigned) in
           let from = number.from in
           let to = number.to in
           let place : suc k - 1 ≡ k = omega arith in
@@ -113,15 +113,15 @@ module _ (course : Course) (s : State) (spans : List Span) (joining : Joined) (m
           = ap (λ n. get_or messages n 0) place ∙ get_or_default messages k 0 i within ∙ is in
           elim (cases_order (suc k) p) [
             | inr (inl less) ↦
-                let ordered : IsOrdered course.tree (map (affinity_of course.assigned) messages) (suc k) p
+                let ordered : IsOrdered course.tree (map (held_of course.assigned) messages) (suc k) p
                 = record {
                   from = omega arith;
                   earlier = less;
                   to = omega (arith, to, long);
-                  excludes = subst (λ a. Excludes course.tree (affinity_of (map (affinity_of course.assigned) messages) (suc k)) a)
-                      (sym (affinity_at p from to))
-                      (subst (λ a. Excludes course.tree a (affinity_of course.assigned (served_at messages p)))
-                      (sym (affinity_at (suc k) (omega arith) (omega (arith, within)) ∙ ap (affinity_of course.assigned) named)) served.excludes);
+                  excludes = subst (λ held. ExcludeEachOther course.tree (held_of (map (held_of course.assigned) messages) (suc k)) held)
+                      (sym (held_at p from to))
+                      (subst (λ held. ExcludeEachOther course.tree held (held_of course.assigned (served_at messages p)))
+                      (sym (held_at (suc k) (omega arith) (omega (arith, within)) ∙ ap (held_of course.assigned) named)) served.excludes);
                 } in
                 let path = h.joined.needs.paths (suc k) p ordered in
                 subst (HasEnded s) named (ended_along path.0 (suc k) p done path.1)
@@ -182,7 +182,7 @@ module _ (course : Course) (s : State) (spans : List Span) (joining : Joined) (m
 
   -- the one that is served first of those that wait joins the others
   module _ (r : ℕ × ℕ) (rest : List (ℕ × ℕ)) (leaves : LeavesDue waits r rest) (passed : r.0 < s.clock) (after : Joined)
-      (have : HaveJoined course.tree spans (map (affinity_of course.assigned) messages ++ affinity_of course.assigned r.1 ∷ []) after) where
+      (have : HaveJoined course.tree spans (map (held_of course.assigned) messages ++ held_of course.assigned r.1 ∷ []) after) where
     was_waiting : (x : ℕ × ℕ) → Contains (r ∷ rest) x → Contains waits x
     was_waiting x waits_on = Contains-permutation (r ∷ rest) waits x (IsPermutation-sym waits (r ∷ rest) leaves.rest) waits_on
 
@@ -195,7 +195,7 @@ module _ (course : Course) (s : State) (spans : List Span) (joining : Joined) (m
 
     pub lined_more : IsLined course s spans after (messages ++ r.1 ∷ []) rest
     lined_more = record {
-      joined = subst (λ xs. HaveJoined course.tree spans xs after) (sym (map_push (affinity_of course.assigned) messages r.1)) have;
+      joined = subst (λ xs. HaveJoined course.tree spans xs after) (sym (map_push (held_of course.assigned) messages r.1)) have;
       each = λ i joins. elim (Contains-push_cases messages r.1 i joins) [
         | inl was ↦ h.each i was
         | inr is ↦ subst (λ n. IsAmongFirst course.work.count n × IsIssued course s n) is (keyed.number, keyed.issued)

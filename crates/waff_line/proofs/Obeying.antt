@@ -1,7 +1,8 @@
 -- What a run leaves is a plan that obeys, and messages that run do not exclude each other.
 use Rattle.std.proofs.Common.{◌≡◌, ℕ, inl, inr, sym, arith}
-use Rattle.waff_model.specs.Tree.{Excludes}
-use Rattle.waff_assign.specs.Order.{affinity_of}
+use Rattle.waff_assign.specs.Held.{ExcludeEachOther}
+use Rattle.waff_assign.specs.Order.{held_of}
+use Rattle.waff_assign.proofs.Holding.{exclude_sym}
 use Rattle.waff_plan.specs.Order.{ComesBefore}
 use Rattle.waff_plan.specs.Work.{finish_of}
 use Rattle.waff_plan.proofs.Orders.{served_by_key}
@@ -42,7 +43,7 @@ each_has_run course is s reached all n number =
 
 -- of two messages that run and exclude each other neither is served first
 none_first : (course : Course) (s : State) → Sound course s → (i j : ℕ) → IsRunning s i → IsRunning s j
-    → Excludes course.tree (affinity_of course.assigned i) (affinity_of course.assigned j) → ComesBefore (key_in course s) i j → ⊥
+    → ExcludeEachOther course.tree (held_of course.assigned i) (held_of course.assigned j) → ComesBefore (key_in course s) i j → ⊥
 none_first course s sound i j runs_i runs_j excludes before =
     let number_i = begun_number s i runs_i.begun in
     let number_j = begun_number s j runs_j.begun in
@@ -54,16 +55,11 @@ none_first course s sound i j runs_i runs_j excludes before =
     } in
     runs_on s i runs_i ((sound.begun j runs_j.begun).after i (sound.begun i runs_i.begun).issued served).0
 
-excludes_both : (course : Course) (i j : ℕ) → Excludes course.tree (affinity_of course.assigned i) (affinity_of course.assigned j)
-    → Excludes course.tree (affinity_of course.assigned j) (affinity_of course.assigned i)
-excludes_both course i j (inl above) = inr above
-excludes_both course i j (inr above) = inl above
-
 pub running_exclude_nobody : (course : Course) → IsCourse course → RunningExcludeNobody course
 running_exclude_nobody course is s reached i j unlike runs_i runs_j excludes =
     let sound = sound_reached course is s reached in
     elim (one_is_keyed_first (key_in course s) i j) [
       | inl same ↦ unlike same
       | inr (inl first) ↦ none_first course s sound i j runs_i runs_j excludes first
-      | inr (inr second) ↦ none_first course s sound j i runs_j runs_i (excludes_both course i j excludes) second
+      | inr (inr second) ↦ none_first course s sound j i runs_j runs_i (exclude_sym course.tree (held_of course.assigned i) (held_of course.assigned j) excludes) second
     ]

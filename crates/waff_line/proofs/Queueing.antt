@@ -8,7 +8,7 @@ use Rattle.std.proofs.lemmas.List.Sorted.{Contains-permutation, IsPermutation-sy
 use Rattle.waff_model.specs.Versions.{has_clients}
 use Rattle.waff_model.specs.declared.message.Version.{Version}
 use Rattle.waff_model.specs.declared.preorder.Span.{Span}
-use Rattle.waff_assign.specs.Order.{affinity_of}
+use Rattle.waff_assign.specs.Order.{held_of}
 use Rattle.waff_order.specs.Joined.{Joined, HaveJoined}
 use Rattle.waff_waits.specs.Waits.{IsFree, WhoWaits, waiting_for}
 use Rattle.waff_waits.proofs.Each.{contains_map, contains_mapped, each_there}
@@ -161,7 +161,7 @@ module _ (course : Course) (spans : List Span) (joining : Joined) where
   later_number key i j none_i none_j less (inr same) = let more = same.1 in omega (arith, less, more)
 
   pub lined_opening_by_number : has_clients course.version ≡ false → AwaitsNone course.work
-      → HaveJoined course.tree spans (map (affinity_of course.assigned) (range_with_len 1 course.work.count)) joining
+      → HaveJoined course.tree spans (map (held_of course.assigned) (range_with_len 1 course.work.count)) joining
       → IsLined course (opening course) spans joining (range_with_len 1 course.work.count) []
   lined_opening_by_number none awaits have = record {
     joined = have;

@@ -1,7 +1,7 @@
 -- What holds of the machine of a run, whatever it is told and whichever message begins of those that may.
 use Rattle.std.specs.Prelude.{◌≡◌, ◌≢◌, ◌⊎◌, ℕ, ◌≤◌, Bool, false, ◌==◌, List, count_by}
-use Rattle.waff_model.specs.Tree.{Excludes}
-use Rattle.waff_assign.specs.Order.{Relation, affinity_of}
+use Rattle.waff_assign.specs.Held.{ExcludeEachOther}
+use Rattle.waff_assign.specs.Order.{Relation, held_of}
 use Rattle.waff_plan.specs.Obeys.{EachRuns, Obeys}
 use Rattle.waff_plan.specs.Serving.{served_before}
 use Rattle.waff_plan.specs.Work.{IsAmongFirst}
@@ -61,7 +61,7 @@ OneAfterAnother course =
 abbrev pub RunningExcludeNobody : Course → Type 0
 RunningExcludeNobody course =
     (s : State) → Reaches course s → (i j : ℕ) → i ≢ j → IsRunning s i → IsRunning s j
-    → ¬ Excludes course.tree (affinity_of course.assigned i) (affinity_of course.assigned j)
+    → ¬ ExcludeEachOther course.tree (held_of course.assigned i) (held_of course.assigned j)
 
 -- a message may begin on a worker, once the machine is told the time
 pub record BeginsWhenTold (course : Course) (s : State) : Type 0 where

@@ -6,7 +6,8 @@ use Rattle.waff_model.specs.Tree.{Node}
 use Rattle.waff_model.specs.Versions.{has_clients}
 use Rattle.waff_model.specs.declared.message.Version.{Version}
 use Rattle.waff_model.specs.declared.preorder.Span.{Span}
-use Rattle.waff_assign.specs.Order.{affinity_of}
+use Rattle.waff_assign.specs.Held.{Held}
+use Rattle.waff_assign.specs.Order.{held_of}
 use Rattle.waff_order.specs.Joined.{Joined, HaveJoined}
 use Rattle.waff_waits.specs.Times.{AreEach}
 use Rattle.waff_waits.specs.Waits.{WhoWaits}
@@ -24,7 +25,7 @@ use Rattle.waff_line.specs.Scaled.{scaled}
 pub record LineValue : Type 0 where
   pub version : Version
   pub tree : List Node
-  pub assigned : List ℕ
+  pub assigned : List Held
   pub timings : List Timing
   pub tick : ℕ
   pub workers : ℕ
@@ -59,7 +60,7 @@ pub record IsKeyed (course : Course) (s : State) (r : ℕ × ℕ) : Type 0 where
 -- their places; what is issued and has not joined waits, and is served after those that have
 pub record IsLined (course : Course) (s : State) (spans : List Span) (joining : Joined)
     (messages : List ℕ) (waits : List (ℕ × ℕ)) : Type 0 where
-  pub joined : HaveJoined course.tree spans (map (affinity_of course.assigned) messages) joining
+  pub joined : HaveJoined course.tree spans (map (held_of course.assigned) messages) joining
   pub each : (i : ℕ) → Contains messages i → IsAmongFirst course.work.count i × IsIssued course s i
   pub known : (i : ℕ) → IsAmongFirst course.work.count i → IsIssued course s i
       → Contains messages i ⊎ Contains waits (key_in course s i, i)

@@ -5,22 +5,23 @@ use Rattle.std.specs.Prelude.{List, [], ◌∷◌, length, replicate, slice_inde
 use Rattle.waff_model.specs.Tree.{Node}
 use Rattle.waff_model.specs.Versions.{has_clients}
 use Rattle.waff_model.specs.declared.message.Version.{Version}
+use Rattle.waff_assign.specs.Held.{Held}
 use Rattle.waff_plan.specs.Obeys.{AwaitsEarlier, AwaitsNone}
 use Rattle.waff_plan.specs.Order.{Serves, key_of}
 use Rattle.waff_plan.specs.Work.{Work, IsAmongFirst, IsAwaited, issue_of}
 use Rattle.waff_line.specs.declared.event.Event.{Event}
 use Rattle.waff_line.specs.declared.event.Event.TheVariants.{Tell, Begin, End}
 
--- what a run is of: the version of its trace, the tree and the affinities of the messages in it, the work in
--- nanoseconds, whose costs count for nothing, and how many workers there are
+-- what a run is of: the version of its trace, the tree and what the messages hold, the work in nanoseconds, whose
+-- costs count for nothing, and how many workers there are
 pub record Course : Type 0 where
   pub version : Version
   pub tree : List Node
-  pub assigned : List ℕ
+  pub assigned : List Held
   pub work : Work
   pub workers : ℕ
 
--- each message awaits earlier ones or none, without clients none; each has an affinity; and there is a
+-- each message awaits earlier ones or none, without clients none; of each it is known what it holds; and there is a
 -- worker
 pub record IsCourse (course : Course) : Type 0 where
   pub earlier : AwaitsEarlier course.work

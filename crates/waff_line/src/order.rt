@@ -4,6 +4,8 @@ ghost use Rattle.std.specs.Prelude.{◌≡◌, ◌≤◌, ℕ, List, [], ◌∷�
 ghost use Rattle.waff_model.specs.Numbers.{IsAmongFirst};
 ghost use Rattle.waff_model.specs.Tree.{Node};
 ghost use Rattle.waff_model.specs.declared.limits.TheConstants.{MAX_MESSAGES};
+ghost use Rattle.waff_assign.specs.Held.{Held, IsHeldWithin};
+ghost use Rattle.waff_assign.specs.Order.{held_of};
 ghost use Rattle.waff_order.specs.Joined.{HaveJoined, IsJoined};
 ghost use Rattle.waff_order.specs.Needs.{IsNeed};
 ghost use Rattle.waff_line.specs.Lined.{served_at};
@@ -11,9 +13,9 @@ ghost use Rattle.waff_line.specs.Machine.{HasEnded};
 
 use crate::notes::Notes;
 use std::alloc::{AllocError, Global};
-use waff_assign::Case;
+use waff_assign::{Assigned, Case};
+use waff_model::Span;
 use waff_model::limits::MAX_MESSAGES;
-use waff_model::{AffinityId, Span};
 use waff_order::Joining;
 
 /// The messages that have joined, in the order in which they are served, with the needs of each by their
@@ -40,21 +42,23 @@ impl<'a> Order<'a> {
         })
     }
 
-    /// Message `m` of this affinity joins as the last one. After an error the order is good for nothing.
-    pub fn join(&mut self, affinity: AffinityId, m: u32) -> Result<(), AllocError>
+    /// Message `m` of these joins as the last one. After an error the order is good for nothing.
+    pub fn join(&mut self, assigned: &Assigned, m: u32) -> Result<(), AllocError>
+        requires number { IsAmongFirst (length assigned.now) m }
+        requires known { IsHeldWithin (length self.old.spans.now) (held_of assigned.now m) }
         requires joined { IsJoined self.old.spans.now self.old.joining }
         requires count { length self.old.joining.needs ≡ length self.old.messages.items }
         ensures spans { self.new.spans.now ≡ self.old.spans.now }
         ensures messages { OnOk result (self.new.messages.items ≡ self.old.messages.items ++ m ∷ []) }
-        ensures joined { OnOk result ((tree : List Node) (assigned : List ℕ)
-            → HaveJoined tree self.old.spans.now assigned self.old.joining
-            → HaveJoined tree self.old.spans.now (assigned ++ affinity.0 ∷ []) self.new.joining) }
+        ensures joined { OnOk result ((tree : List Node) (held : List Held)
+            → HaveJoined tree self.old.spans.now held self.old.joining
+            → HaveJoined tree self.old.spans.now (held ++ held_of assigned.now m ∷ []) self.new.joining) }
         ensures few { OnOk result (length self.new.messages.items ≤ MAX_MESSAGES) }
     {
-        if affinity.0 as usize >= self.spans.len() || self.messages.len() >= MAX_MESSAGES {
+        if self.messages.len() >= MAX_MESSAGES {
             return Err(AllocError);
         }
-        self.joining.join(self.spans, affinity)?;
+        self.joining.join(self.spans, assigned, m)?;
         self.messages.push(m)?;
         Ok(())
     }

@@ -2,7 +2,7 @@
 
 ghost use Rattle.std.specs.Prelude.{◌≡◌, ◌-◌, ◌*◌, ◌≤◌, ℕ, length, map, false, All, IfOk, IfSome, OnOk};
 ghost use Rattle.std.specs.Prelude.{[], true, Contains, slice_set};
-ghost use Rattle.waff_assign.specs.Order.{affinity_of};
+ghost use Rattle.waff_assign.specs.Order.{held_of};
 ghost use Rattle.waff_order.specs.Joined.{HaveJoined};
 ghost use Rattle.waff_model.specs.Numbers.{IsAmongFirst};
 ghost use Rattle.waff_model.specs.Versions.{has_clients};
@@ -137,7 +137,7 @@ impl<'a> Queue<'a> {
             return Ok(None);
         };
         self.is_over = true;
-        self.order.join(self.case.assigned.of(message), message)?;
+        self.order.join(self.case.assigned, message)?;
         self.is_over = false;
         Ok(Some(Joined {
             issue,
@@ -298,7 +298,7 @@ fn latest(tick: u32) -> u64
 /// The order of service of a case when its run begins.
 fn first_order<'a>(alloc: Global, case: &Case<'a>) -> Result<Order<'a>, AllocError>
     ensures joined { IfOk result (λ order. HaveJoined case.now.tree.now order.spans.now
-        (map (affinity_of case.now.assigned.now) order.messages.items) order.joining) }
+        (map (held_of case.now.assigned.now) order.messages.items) order.joining) }
     ensures messages { IfOk result (λ order. order.messages.items
         ≡ first_joined case.now.trace.now.version (length case.now.assigned.now)) }
 {
@@ -307,7 +307,7 @@ fn first_order<'a>(alloc: Global, case: &Case<'a>) -> Result<Order<'a>, AllocErr
         return Ok(order);
     }
     for m in 1..case.assigned.len() + 1 {
-        order.join(case.assigned.of(m), m)?;
+        order.join(case.assigned, m)?;
     }
     Ok(order)
 }

@@ -18,6 +18,7 @@ use Rattle.waff_list.specs.declared.rule.Rule.TheVariants.{Arrival, Longest}
 use Rattle.waff_list.proofs.Graham.{list_plans_are_within_bound}
 use Rattle.waff_list.proofs.RuleLemmas.{busy_of}
 use Rattle.waff_list.proofs.Uniqueness.{AwaitsMessages, issue_alike, plans_are_one, turned}
+use Rattle.waff_assign.specs.Held.{Held}
 
 -- what is awaited is a message
 pub awaits_messages : (work : Work) → AwaitsEarlier work → AwaitsMessages work
@@ -43,7 +44,7 @@ module _ (work : Work) (start other : ℕ → ℕ) (t : ℕ) (alike : (m : ℕ) 
   issued_to i m issued (inl sooner) = inl (omega (arith, sooner, alike i (omega (arith, sooner, issued)), alike m issued))
   issued_to i m issued (inr same) = inr (omega (arith, same.0, alike i (omega (arith, same.0, issued)), alike m issued), same.1)
 
-  pub served_to : (tree : List Node) (assigned : List ℕ) (i m : ℕ) → issue_of work start m ≤ t → IsServedBefore tree assigned work start i m
+  pub served_to : (tree : List Node) (assigned : List Held) (i m : ℕ) → issue_of work start m ≤ t → IsServedBefore tree assigned work start i m
       → IsServedBefore tree assigned work other i m
   served_to tree assigned i m issued pair =
       record { first = pair.first; second = pair.second; precedes = issued_to i m issued pair.precedes; excludes = pair.excludes }
@@ -54,7 +55,7 @@ module _ (work : Work) (start other : ℕ → ℕ) (t : ℕ) (alike : (m : ℕ) 
   taken_to priority next same i j i_number j_number issued (inr (level, first)) =
       inr (sym (same i i_number) ∙ level ∙ same j j_number, issued_to i j issued first)
 
-module _ (tree : List Node) (assigned : List ℕ) (work : Work) (follows : AwaitsEarlier work) where
+module _ (tree : List Node) (assigned : List Held) (work : Work) (follows : AwaitsEarlier work) where
   -- by priorities that are the same
   same_plans : EachRuns work → (priority next : ℕ → ℕ) → AreSame work priority next → (k : ℕ) (start other : ℕ → ℕ)
       → IsListPlanByIssue tree assigned priority work k start → IsListPlanByIssue tree assigned next work k other → AreSame work start other
@@ -113,7 +114,7 @@ client_tails_are_one work follows tail other tails others m number =
     omega (arith, within, back)
 
 -- the plan by a rule is one
-pub plan_by_issue_is_one : (tree : List Node) (assigned : List ℕ) (work : Work) → AwaitsEarlier work → EachRuns work → PlanByIssueIsOne tree assigned work
+pub plan_by_issue_is_one : (tree : List Node) (assigned : List Held) (work : Work) → AwaitsEarlier work → EachRuns work → PlanByIssueIsOne tree assigned work
 plan_by_issue_is_one tree assigned work follows runs Arrival k start other p q = list_plan_by_issue_is_one tree assigned work follows runs _ k start other p q
 plan_by_issue_is_one tree assigned work follows runs Longest k start other (tail, tails, p) (other_tail, other_tails, q) =
     same_plans tree assigned work follows runs tail other_tail (client_tails_are_one work follows tail other_tail tails other_tails) k start other p q
@@ -135,7 +136,7 @@ plan_over_same before near first second work same firsts k start h =
       };
     }
 
-pub by_issue_is_by_arrival : (tree : List Node) (assigned : List ℕ) (work : Work) → ByIssueIsByArrival tree assigned work
+pub by_issue_is_by_arrival : (tree : List Node) (assigned : List Held) (work : Work) → ByIssueIsByArrival tree assigned work
 by_issue_is_by_arrival tree assigned work same none rises k start = (
   λ plan. plan_over_same served pairs by_issue by_arrival work to_pairs (λ i j. issue_of_arrival i j) k start plan,
   λ plan. plan_over_same pairs served by_arrival by_issue work (λ i j. let both = to_pairs i j in (both.1, both.0)) (λ i j. arrival_of_issue i j) k start plan,

@@ -2,7 +2,8 @@
 use Rattle.std.proofs.Common.{◌≡◌, ℕ, ◌+◌, ◌-◌, ◌≤◌, inl, inr, List, [], ◌∷◌, ◌++◌, length, map, set, All, Contains, arith, sym, ◌∙◌, ap, subst, get_or-set_same}
 use Rattle.std.proofs.lemmas.List.{length-map, length_push, map_push}
 use Rattle.std.proofs.lemmas.List.Elements.{All-contains_itself, All-map, All-weaker, Contains-get_or}
-use Rattle.waff_assign.specs.Order.{affinity_of}
+use Rattle.waff_assign.specs.Held.{Held}
+use Rattle.waff_assign.specs.Order.{held_of}
 use Rattle.waff_model.specs.Numbers.{IsAmongFirst}
 use Rattle.waff_model.specs.Tree.{Node}
 use Rattle.waff_order.specs.Joined.{HaveJoined}
@@ -17,7 +18,7 @@ use Rattle.waff_list.proofs.ServedLemmas.{list_of_last, told_more}
 module _ (work : Work) (x y : Issued) (messages : List ℕ) (needs : List (List ℕ)) (m : ℕ) (h : AreJoined x work.count messages needs) (is : IsNew work messages m)
     (case : y.case ≡ x.case) (spans : y.spans ≡ x.spans) (moved : y.messages.items ≡ x.messages.items ++ m ∷ [])
     (list : List ℕ) (listed : y.joining.needs ≡ x.joining.needs ++ list ∷ [])
-    (joins : (tree : List Node) (assigned : List ℕ) → HaveJoined tree x.spans.now assigned x.joining → HaveJoined tree x.spans.now (assigned ++ affinity_of x.case.assigned.now m ∷ []) y.joining)
+    (joins : (tree : List Node) (assigned : List Held) → HaveJoined tree x.spans.now assigned x.joining → HaveJoined tree x.spans.now (assigned ++ held_of x.case.assigned.now m ∷ []) y.joining)
     (xs : List ℕ) (named : xs ≡ map (served_at y.messages.items) (needs_of y.joining.needs (length y.messages.items))) where
   abbrev all : List ℕ
   all = messages ++ m ∷ []
@@ -29,7 +30,7 @@ module _ (work : Work) (x y : Issued) (messages : List ℕ) (needs : List (List 
   from_one d there = (is.numbers d there).from
 
   count : length x.joining.needs ≡ length messages
-  count = h.joined.needs.count ∙ length-map messages (affinity_of x.case.assigned.now)
+  count = h.joined.needs.count ∙ length-map messages (held_of x.case.assigned.now)
 
   all_are : y.messages.items ≡ all
   all_are = moved ∙ ap (λ ys. ys ++ m ∷ []) h.messages
@@ -37,10 +38,10 @@ module _ (work : Work) (x y : Issued) (messages : List ℕ) (needs : List (List 
   last : length y.messages.items ≡ length messages + 1
   last = omega (arith, ap length all_are, length_push messages m)
 
-  pub have : HaveJoined y.case.tree.now y.spans.now (map (affinity_of y.case.assigned.now) all) y.joining
+  pub have : HaveJoined y.case.tree.now y.spans.now (map (held_of y.case.assigned.now) all) y.joining
   have =
-      let aff = affinity_of x.case.assigned.now in
-      rw (case, spans) (subst (λ ys. HaveJoined x.case.tree.now x.spans.now ys y.joining) (sym (map_push aff messages m)) (joins x.case.tree.now (map aff messages) h.joined))
+      let held = held_of x.case.assigned.now in
+      rw (case, spans) (subst (λ ys. HaveJoined x.case.tree.now x.spans.now ys y.joining) (sym (map_push held messages m)) (joins x.case.tree.now (map held messages) h.joined))
 
   list_is : needs_of y.joining.needs (length messages + 1) ≡ list
   list_is = list_of_last work.count messages m x.joining y.joining list needs m_number is.new from_one count listed h.joined.lists h.told

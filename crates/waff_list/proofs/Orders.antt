@@ -25,6 +25,7 @@ use Rattle.waff_waits.proofs.Each.{contains_mapped, times_listed}
 use Rattle.waff_list.proofs.IssuePlans.{served_to}
 use Rattle.waff_list.proofs.ServiceLemmas.{need_is_served, path_of_pair}
 use Rattle.waff_list.proofs.Uniqueness.{AreAlike}
+use Rattle.waff_assign.specs.Held.{Held}
 
 -- along a path through needs numbers rise
 path_numbers : (given : List (List ℕ)) (lists : AreLists given) (n i m : ℕ) → PathBy (IsNeed given) n i m → (1 ≤ i) × (i < m) × (m ≤ length given)
@@ -56,7 +57,7 @@ numbers_serve given work lists same none small = record {
       omega (arith, issue_is_floor work none start m, small.floor m (record { from = omega (arith, is.0, is.1); to = omega (arith, is.2, same) }));
 }
 
-pub issues_serve : (tree : List Node) (spans : List Span) (assigned : List ℕ) (work : Work) → IsServiceOrder work (by_issue tree spans assigned work)
+pub issues_serve : (tree : List Node) (spans : List Span) (assigned : List Held) (work : Work) → IsServiceOrder work (by_issue tree spans assigned work)
 issues_serve tree spans assigned work =
     record {
       numbers = λ start i m pair. (pair.first, pair.second);

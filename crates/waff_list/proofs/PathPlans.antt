@@ -7,6 +7,7 @@ use Rattle.waff_order.specs.Needs.{IsNeed, AreNeeds}
 use Rattle.waff_order.proofs.NeedLemmas.{path_one, path_weaker}
 use Rattle.waff_list.specs.ListRule.{IsReady, IsListPlan, HaveSamePaths}
 use Rattle.waff_list.specs.Unique.{ListPlansAreShared}
+use Rattle.waff_assign.specs.Held.{Held}
 
 -- along a path that a plan keeps, the last starts only when the first has finished
 path_by_ordered : (before : Relation) (work : Work) (start : ℕ → ℕ) → ((i j : ℕ) → before i j → finish_of work start i ≤ start j)
@@ -56,19 +57,19 @@ shared_plans near before first work same k start = (
 )
 
 -- needs have the same paths as the paths through them, and those as the ordered pairs
-pub paths_of_needs : (tree : List Node) (assigned : List ℕ) (needs : List (List ℕ)) → AreNeeds tree assigned needs → HaveSamePaths (Path (IsNeed needs)) (IsOrdered tree assigned)
+pub paths_of_needs : (tree : List Node) (assigned : List Held) (needs : List (List ℕ)) → AreNeeds tree assigned needs → HaveSamePaths (Path (IsNeed needs)) (IsOrdered tree assigned)
 paths_of_needs tree assigned needs are = record {
   to = λ i j pair. path_one (Path (IsNeed needs)) i j (are.paths i j pair);
   from = λ i j path. path_weaker (IsNeed needs) (IsOrdered tree assigned) are.ordered i j path;
 }
 
 -- paths through needs and the ordered pairs
-pub plan_over_pairs : (tree : List Node) (assigned : List ℕ) (needs : List (List ℕ)) (work : Work) (first : Relation) (k : ℕ) (start : ℕ → ℕ) → AreNeeds tree assigned needs
+pub plan_over_pairs : (tree : List Node) (assigned : List Held) (needs : List (List ℕ)) (work : Work) (first : Relation) (k : ℕ) (start : ℕ → ℕ) → AreNeeds tree assigned needs
     → IsListPlan (Path (IsNeed needs)) first work k start → IsListPlan (IsOrdered tree assigned) first work k start
 plan_over_pairs tree assigned needs work first k start are h =
     same_paths_same_plans (Path (IsNeed needs)) (IsOrdered tree assigned) work (paths_of_needs tree assigned needs are) first k start h
 
-pub plan_over_needs : (tree : List Node) (assigned : List ℕ) (needs : List (List ℕ)) (work : Work) (first : Relation) (k : ℕ) (start : ℕ → ℕ) → AreNeeds tree assigned needs
+pub plan_over_needs : (tree : List Node) (assigned : List Held) (needs : List (List ℕ)) (work : Work) (first : Relation) (k : ℕ) (start : ℕ → ℕ) → AreNeeds tree assigned needs
     → IsListPlan (IsOrdered tree assigned) first work k start → IsListPlan (Path (IsNeed needs)) first work k start
 plan_over_needs tree assigned needs work first k start are h =
     let same = paths_of_needs tree assigned needs are in

@@ -14,6 +14,7 @@ use Rattle.waff_list.specs.declared.rule.Rule.TheVariants.{Arrival, Longest}
 use Rattle.waff_list.proofs.PathPlans.{plan_over_pairs}
 use Rattle.waff_list.proofs.TailLemmas.{ahead_of, tails_are_one, paths_share_tails}
 use Rattle.waff_list.proofs.Uniqueness.{order_of_priority, list_plan_is_one}
+use Rattle.waff_assign.specs.Held.{Held}
 
 -- a list plan leaves no worker idle
 pub busy_of : (before first : Relation) (work : Work) (k : ℕ) (start : ℕ → ℕ) → IsListPlan before first work k start → IsBusyPlan before work k start
@@ -26,7 +27,7 @@ plan_by_priority Arrival before work k start h = (arrival, h)
 plan_by_priority Longest before work k start (tail, tails, h) = (tail, h)
 
 -- paths through needs and the ordered pairs
-pub rule_over_pairs : (tree : List Node) (assigned : List ℕ) (needs : List (List ℕ)) (work : Work) (rule : Rule) (k : ℕ) (start : ℕ → ℕ) → AreNeeds tree assigned needs
+pub rule_over_pairs : (tree : List Node) (assigned : List Held) (needs : List (List ℕ)) (work : Work) (rule : Rule) (k : ℕ) (start : ℕ → ℕ) → AreNeeds tree assigned needs
     → IsPlanBy rule (Path (IsNeed needs)) work k start → IsPlanBy rule (IsOrdered tree assigned) work k start
 rule_over_pairs tree assigned needs work Arrival k start are h = plan_over_pairs tree assigned needs work (IsTakenFirst arrival) k start are h
 rule_over_pairs tree assigned needs work Longest k start are (tail, tails, h) =

@@ -16,8 +16,9 @@ use Rattle.waff_plan.proofs.ServingLemmas.{served_obeys_started, served_to_start
 use Rattle.waff_list.specs.Bound.{IsBusyPlan}
 use Rattle.waff_list.specs.ListRule.{IsReady}
 use Rattle.waff_list.proofs.Graham.{list_plans_are_within_bound}
+use Rattle.waff_assign.specs.Held.{Held}
 
-module _ (tree : List Node) (assigned : List ℕ) (plan : Timetable) (table : IsTimetable plan) (same : length plan.timings ≡ length assigned) (k : ℕ) where
+module _ (tree : List Node) (assigned : List Held) (plan : Timetable) (table : IsTimetable plan) (same : length plan.timings ≡ length assigned) (k : ℕ) where
   abbrev served : Relation
   served = served_in tree assigned plan
 

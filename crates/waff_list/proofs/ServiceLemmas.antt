@@ -3,7 +3,8 @@ use Rattle.std.proofs.Common.{◌≡◌, ℕ, zero, suc, ◌+◌, ◌-◌, ◌<�
 use Rattle.std.proofs.lemmas.Bool.{cases_lt, cases_order}
 use Rattle.std.proofs.lemmas.List.{get_or-map, get_or_default, length-map}
 use Rattle.std.proofs.lemmas.List.Elements.{Contains-get_or}
-use Rattle.waff_assign.specs.Order.{Relation, IsOrdered, PathBy, Path, affinity_of}
+use Rattle.waff_assign.specs.Held.{Held, nothing}
+use Rattle.waff_assign.specs.Order.{Relation, IsOrdered, PathBy, Path, held_of}
 use Rattle.waff_model.specs.Tree.{Node}
 use Rattle.waff_model.specs.declared.preorder.Span.{Span}
 use Rattle.waff_plan.specs.Issues.{IsIssuedBefore, IsServedBefore}
@@ -15,15 +16,15 @@ use Rattle.waff_order.proofs.NeedLemmas.{need_within}
 use Rattle.waff_list.specs.Issuing.{AreNeedsByNumber, AreServed, served_at}
 use Rattle.waff_waits.proofs.Each.{contains_map, contains_mapped, each_there}
 
-module _ (tree : List Node) (spans : List Span) (assigned : List ℕ) (work : Work) where
+module _ (tree : List Node) (spans : List Span) (assigned : List Held) (work : Work) where
   abbrev before_at : (ℕ → ℕ) → Relation
   before_at start = IsServedBefore tree assigned work start
 
   -- the messages that have joined, and their needs by number
   module _ (start : ℕ → ℕ) (now : ℕ) (served : List ℕ) (joined : Joined) (needs : List (List ℕ)) (are : AreServed work start now served)
-      (have : HaveJoined tree spans (map (affinity_of assigned) served) joined) (told : AreNeedsByNumber work.count served joined needs) where
-    long : length (map (affinity_of assigned) served) ≡ length served
-    long = length-map served (affinity_of assigned)
+      (have : HaveJoined tree spans (map (held_of assigned) served) joined) (told : AreNeedsByNumber work.count served joined needs) where
+    long : length (map (held_of assigned) served) ≡ length served
+    long = length-map served (held_of assigned)
 
     stands : (p : ℕ) → 1 ≤ p → p ≤ length served → Contains served (served_at served p)
     stands p from to = Contains-get_or served (p - 1) 0 (omega arith)
@@ -36,11 +37,11 @@ module _ (tree : List Node) (spans : List Span) (assigned : List ℕ) (work : Wo
         let at : i + 1 - 1 ≡ i = omega arith in
         (i + 1, record { from = omega arith; to = omega (arith, there.1) }, ap (λ j. get_or served j 0) at ∙ get_or_default served i 0 m there.1 ∙ there.2)
 
-    affinity_at : (p : ℕ) → 1 ≤ p → p ≤ length served → affinity_of (map (affinity_of assigned) served) p ≡ affinity_of assigned (served_at served p)
-    affinity_at p from to = get_or-map (affinity_of assigned) served (p - 1) 0 0 (omega arith)
+    held_at : (p : ℕ) → 1 ≤ p → p ≤ length served → held_of (map (held_of assigned) served) p ≡ held_of assigned (served_at served p)
+    held_at p from to = get_or-map (held_of assigned) served (p - 1) 0 nothing (omega arith)
 
     -- a pair of places in the order of service is one of messages
-    pub pair_of_places : (p q : ℕ) → IsOrdered tree (map (affinity_of assigned) served) p q → before_at start (served_at served p) (served_at served q)
+    pub pair_of_places : (p q : ℕ) → IsOrdered tree (map (held_of assigned) served) p q → before_at start (served_at served p) (served_at served q)
     pair_of_places p q pair =
         let q_to : q ≤ length served = omega (arith, pair.to, long) in
         let p_from : 1 ≤ p = pair.from in
@@ -51,12 +52,12 @@ module _ (tree : List Node) (spans : List Span) (assigned : List ℕ) (work : Wo
           first = first.0;
           second = second.0;
           precedes = are.sorted (p - 1) (q - 1) 0 (omega arith) (omega arith);
-          excludes = rw (sym (affinity_at p p_from (omega arith)), sym (affinity_at q (omega arith) q_to)) pair.excludes;
+          excludes = rw (sym (held_at p p_from (omega arith)), sym (held_at q (omega arith) q_to)) pair.excludes;
         }
 
     -- and the other way round
     pub places_of_pair : (i m : ℕ) → before_at start i m → issue_of work start m ≤ now
-        → (p : ℕ) × (q : ℕ) × (served_at served p ≡ i) × (served_at served q ≡ m) × IsOrdered tree (map (affinity_of assigned) served) p q
+        → (p : ℕ) × (q : ℕ) × (served_at served p ≡ i) × (served_at served q ≡ m) × IsOrdered tree (map (held_of assigned) served) p q
     places_of_pair i m pair issued =
         let sooner : issue_of work start i ≤ now = elim pair.precedes [ inl less ↦ omega (arith, less, issued) | inr same ↦ omega (arith, same.0, issued) ] in
         let at_i = place_in i pair.first sooner in
@@ -79,7 +80,7 @@ module _ (tree : List Node) (spans : List Span) (assigned : List ℕ) (work : Wo
             from = at_i.1.from;
             earlier = earlier;
             to = omega (arith, at_m.1.to, long);
-            excludes = rw (affinity_at p at_i.1.from at_i.1.to, affinity_at q at_m.1.from at_m.1.to, at_i.2, at_m.2) pair.excludes;
+            excludes = rw (held_at p at_i.1.from at_i.1.to, held_at q at_m.1.from at_m.1.to, at_i.2, at_m.2) pair.excludes;
           },
         )
 

@@ -13,6 +13,7 @@ use Rattle.waff_order.proofs.NeedLemmas.{path_one}
 use Rattle.waff_list.specs.ListRule.{HaveSamePaths}
 use Rattle.waff_list.proofs.PathPlans.{paths_of_needs}
 use Rattle.waff_list.specs.Tails.{AreTails, TailsAreOne, TailIsGreatestChain, TailsAreShared}
+use Rattle.waff_assign.specs.Held.{Held}
 
 -- what is before another message has an earlier place
 pub record IsAhead (before : Relation) (work : Work) : Type 0 where
@@ -30,7 +31,7 @@ ahead_of before work forward = record {
 }
 
 -- so are ordered pairs
-pub ordered_ahead : (tree : List Node) (assigned : List ℕ) (work : Work) → length assigned ≡ work.count → IsAhead (IsOrdered tree assigned) work
+pub ordered_ahead : (tree : List Node) (assigned : List Held) (work : Work) → length assigned ≡ work.count → IsAhead (IsOrdered tree assigned) work
 ordered_ahead tree assigned work same = record {
   place = λ m. m;
   to = λ m number. number.to;
@@ -132,7 +133,7 @@ pub tails_over_paths : (near : Relation) (work : Work) (tail : ℕ → ℕ) → 
 tails_over_paths near work tail =
     same_paths_same_tails near (Path near) work (record { to = λ i j path. path; from = λ i j pair. path_one (Path near) i j (path_one near i j pair) }) tail
 
-module _ (tree : List Node) (assigned : List ℕ) (needs : List (List ℕ)) (work : Work) (tail : ℕ → ℕ) (are : AreNeeds tree assigned needs) where
+module _ (tree : List Node) (assigned : List Held) (needs : List (List ℕ)) (work : Work) (tail : ℕ → ℕ) (are : AreNeeds tree assigned needs) where
   -- needs and the ordered pairs
   pub needs_share_tails : AreTails (IsNeed needs) work tail ↔ AreTails (IsOrdered tree assigned) work tail
   needs_share_tails =

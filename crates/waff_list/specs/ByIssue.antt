@@ -12,6 +12,7 @@ use Rattle.waff_plan.specs.Work.{Work, IsAwaited, IsNumber, gap_of}
 use Rattle.waff_list.specs.ListRule.{IsListPlan, IsTakenFirst, arrival}
 use Rattle.waff_list.specs.declared.rule.Rule.{Rule}
 use Rattle.waff_list.specs.declared.rule.Rule.TheVariants.{Arrival, Longest}
+use Rattle.waff_assign.specs.Held.{Held}
 
 -- of two ready messages i is taken first: its priority is higher, or they have the same and i is
 -- issued before j
@@ -20,7 +21,7 @@ IsTakenByIssue priority work start i j =
     (priority j < priority i) ⊎ ((priority i ≡ priority j) × IsIssuedBefore work start i j)
 
 -- a list plan for k in the order in which it issues the messages itself
-abbrev pub IsListPlanByIssue : List Node → List ℕ → (ℕ → ℕ) → Work → ℕ → (ℕ → ℕ) → Type 0
+abbrev pub IsListPlanByIssue : List Node → List Held → (ℕ → ℕ) → Work → ℕ → (ℕ → ℕ) → Type 0
 IsListPlanByIssue tree assigned priority work k start =
     IsListPlan (IsServedBefore tree assigned work start) (IsTakenByIssue priority work start)
     work k start
@@ -41,7 +42,7 @@ pub record AreClientTails (work : Work) (tail : ℕ → ℕ) : Type 0 where
 
 -- a list plan for k in the order of issue by this rule: by arrival, or by the tails of messages that
 -- await others
-abbrev pub IsPlanByIssue : Rule → List Node → List ℕ → Work → ℕ → (ℕ → ℕ) → Type 0
+abbrev pub IsPlanByIssue : Rule → List Node → List Held → Work → ℕ → (ℕ → ℕ) → Type 0
 IsPlanByIssue Arrival tree assigned work k start =
     IsListPlanByIssue tree assigned arrival work k start
 IsPlanByIssue Longest tree assigned work k start =
@@ -54,26 +55,26 @@ ClientTailsAreOne work =
     → AreSame work tail other
 
 -- two list plans for k in the order of issue by the same priority start each message at the same tick
-abbrev pub ListPlanByIssueIsOne : List Node → List ℕ → Work → Type 0
+abbrev pub ListPlanByIssueIsOne : List Node → List Held → Work → Type 0
 ListPlanByIssueIsOne tree assigned work =
     (priority : ℕ → ℕ) (k : ℕ) (start other : ℕ → ℕ)
     → IsListPlanByIssue tree assigned priority work k start
     → IsListPlanByIssue tree assigned priority work k other → AreSame work start other
 
 -- so do two by the same rule
-abbrev pub PlanByIssueIsOne : List Node → List ℕ → Work → Type 0
+abbrev pub PlanByIssueIsOne : List Node → List Held → Work → Type 0
 PlanByIssueIsOne tree assigned work =
     (rule : Rule) (k : ℕ) (start other : ℕ → ℕ) → IsPlanByIssue rule tree assigned work k start
     → IsPlanByIssue rule tree assigned work k other → AreSame work start other
 
 -- a list plan in the order of issue is within the bound of its printed chain, and at most twice as
 -- long as any plan for k that serves as it does
-pub record IsBoundedByIssue (tree : List Node) (assigned : List ℕ) (work : Work) (k : ℕ)
+pub record IsBoundedByIssue (tree : List Node) (assigned : List Held) (work : Work) (k : ℕ)
     (start : ℕ → ℕ) (chain : List ℕ) : Type 0 where
   pub bound : IsWithinBound work k start chain
   pub twice : IsWithinTwice (IsServedBefore tree assigned work start) work k start
 
-abbrev pub ListPlansByIssueAreBounded : List Node → List ℕ → Work → Type 0
+abbrev pub ListPlansByIssueAreBounded : List Node → List Held → Work → Type 0
 ListPlansByIssueAreBounded tree assigned work =
     (priority : ℕ → ℕ) (k : ℕ) (start : ℕ → ℕ) (chain : List ℕ) → 1 ≤ k
     → IsListPlanByIssue tree assigned priority work k start
@@ -82,7 +83,7 @@ ListPlansByIssueAreBounded tree assigned work =
 
 -- where no message awaits another and releases do not fall, the list plan by arrival in the order of
 -- issue is that in the order of the trace
-abbrev pub ByIssueIsByArrival : List Node → List ℕ → Work → Type 0
+abbrev pub ByIssueIsByArrival : List Node → List Held → Work → Type 0
 ByIssueIsByArrival tree assigned work =
     length assigned ≡ work.count → AwaitsNone work
     → ((i j : ℕ) → i < j → work.floor i ≤ work.floor j)

@@ -1,9 +1,10 @@
 -- Orders of service: what is served before what, the key by which a message that is ready is taken, and
-
+-- the needs that are known of the messages that are issued.
 use Rattle.std.specs.Prelude.{◌≡◌, ℕ, ◌<◌, ◌≤◌, ◌⊎◌, List, map, Contains}
 use Rattle.waff_model.specs.Tree.{Node}
 use Rattle.waff_model.specs.declared.preorder.Span.{Span}
-use Rattle.waff_assign.specs.Order.{Path, Relation, affinity_of}
+use Rattle.waff_assign.specs.Held.{Held}
+use Rattle.waff_assign.specs.Order.{Path, Relation, held_of}
 use Rattle.waff_order.specs.Joined.{Joined, HaveJoined}
 use Rattle.waff_order.specs.Needs.{IsNeed}
 use Rattle.waff_plan.specs.Issues.{IsServedBefore}
@@ -19,11 +20,11 @@ pub record Order : Type 1 where
   pub key : (ℕ → ℕ) → ℕ → ℕ
   pub knows : List ℕ → List (List ℕ) → Type 0
 
--- needs as messages of these affinities have joined one another, by number
-pub record AreOfJoined (tree : List Node) (spans : List Span) (assigned : List ℕ) (count : ℕ)
+-- needs as messages that hold this have joined one another, by number
+pub record AreOfJoined (tree : List Node) (spans : List Span) (assigned : List Held) (count : ℕ)
     (issued : List ℕ) (needs : List (List ℕ)) : Type 0 where
   pub joined : Joined
-  pub have : HaveJoined tree spans (map (affinity_of assigned) issued) joined
+  pub have : HaveJoined tree spans (map (held_of assigned) issued) joined
   pub told : AreNeedsByNumber count issued joined needs
 
 -- by number, through given needs
@@ -35,7 +36,7 @@ by_number given = record {
 }
 
 -- by issue
-abbrev pub by_issue : List Node → List Span → List ℕ → Work → Order
+abbrev pub by_issue : List Node → List Span → List Held → Work → Order
 by_issue tree spans assigned work = record {
   before = IsServedBefore tree assigned work;
   key = issue_of work;

@@ -2,7 +2,7 @@
 use Rattle.std.specs.Prelude.{◌≡◌, ◌≢◌, ℕ, ◌+◌, ◌-◌, ◌<◌, ◌≤◌, List, [], ◌∷◌, ◌++◌, length, map, Contains}
 use Rattle.std.specs.Prelude.{slice_set, false, replicate, ⊤}
 use Rattle.std.specs.List.Sorted.{IsPermutation}
-use Rattle.waff_assign.specs.Order.{affinity_of}
+use Rattle.waff_assign.specs.Order.{held_of}
 use Rattle.waff_order.specs.Joined.{HaveJoined}
 use Rattle.waff_order.specs.Needs.{AreLists, needs_of}
 use Rattle.waff_plan.specs.Awaiting.{AreAwaiting}
@@ -54,7 +54,7 @@ pub record AreJoined (issues : Issued) (count : ℕ) (issued : List ℕ) (needs 
     : Type 0 where
   pub messages : issues.messages.items ≡ issued
   pub joined : HaveJoined issues.case.tree.now issues.spans.now
-      (map (affinity_of issues.case.assigned.now) issued) issues.joining
+      (map (held_of issues.case.assigned.now) issued) issues.joining
   pub told : AreNeedsByNumber count issued issues.joining needs
 
 -- these are the needs that are known, of the messages that are issued so far

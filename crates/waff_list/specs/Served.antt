@@ -9,9 +9,10 @@ use Rattle.waff_plan.specs.Work.{Work}
 use Rattle.waff_list.specs.ByIssue.{IsPlanByIssue}
 use Rattle.waff_list.specs.Rules.{IsPlanBy}
 use Rattle.waff_list.specs.declared.rule.Rule.{Rule}
+use Rattle.waff_assign.specs.Held.{Held}
 
 -- a list plan for k by this rule
-abbrev pub IsPlanServed : Version → Rule → List Node → List ℕ → Work → ℕ → (ℕ → ℕ) → Type 0
+abbrev pub IsPlanServed : Version → Rule → List Node → List Held → Work → ℕ → (ℕ → ℕ) → Type 0
 IsPlanServed V1 rule tree assigned work k start = IsPlanBy rule (IsOrdered tree assigned) work k start
 IsPlanServed V2 rule tree assigned work k start = IsPlanBy rule (IsOrdered tree assigned) work k start
 IsPlanServed V3 rule tree assigned work k start = IsPlanByIssue rule tree assigned work k start

@@ -8,12 +8,12 @@ use Rattle.waff_list.specs.Tasks.{tail_in}
 use Rattle.waff_list.specs.declared.service.Service.{Service}
 use Rattle.waff_list.specs.declared.service.Service.TheVariants.{ByNumber, ByIssue}
 use Rattle.waff_list.specs.declared.task.Task.{Task}
+use Rattle.waff_assign.specs.Held.{Held}
 
--- what the order of service goes by: the needs of all messages; or a tree, and the affinities of the
--- messages
+-- what the order of service goes by: the needs of all messages; or a tree, and what the messages hold
 pub data Basis : Type 0 where
   of_needs : List (List ℕ) → Basis
-  of_tree : List Node → List Span → List ℕ → Basis
+  of_tree : List Node → List Span → List Held → Basis
 
 abbrev pub basis_of : Service → Basis
 basis_of (ByNumber needs) = of_needs needs.now

@@ -1,13 +1,14 @@
 //! The messages that have been issued, and the needs of each.
 
 ghost use Rattle.std.specs.Prelude.{◌≡◌, ◌<◌, ℕ, List, [], ◌∷◌, ◌++◌, length, map, IfOk, OnOk};
-ghost use Rattle.waff_assign.specs.Order.{affinity_of};
+ghost use Rattle.waff_assign.specs.Order.{held_of};
 ghost use Rattle.waff_model.specs.Numbers.{IsAmongFirst};
 ghost use Rattle.waff_model.specs.Tree.{Node};
 ghost use Rattle.waff_model.specs.declared.limits.TheConstants.{MAX_MESSAGES};
 ghost use Rattle.waff_order.specs.Joined.{HaveJoined, IsJoined};
 ghost use Rattle.waff_order.specs.Needs.{needs_of};
 ghost use Rattle.waff_list.specs.Issuing.{served_at};
+ghost use Rattle.waff_assign.specs.Held.{Held};
 
 use std::alloc::{AllocError, Global};
 use waff_assign::Case;
@@ -56,16 +57,16 @@ impl<'a> Issued<'a> {
         ensures spans { OnOk result (self.new.spans ≡ self.old.spans) }
         ensures messages { OnOk result (self.new.messages.items
             ≡ self.old.messages.items ++ m ∷ []) }
-        ensures joined { OnOk result ((tree : List Node) (assigned : List ℕ)
+        ensures joined { OnOk result ((tree : List Node) (assigned : List Held)
             → HaveJoined tree self.old.spans.now assigned self.old.joining
             → HaveJoined tree self.old.spans.now
-            (assigned ++ affinity_of self.old.case.assigned.now m ∷ []) self.new.joining) }
+            (assigned ++ held_of self.old.case.assigned.now m ∷ []) self.new.joining) }
         ensures listed { OnOk result ((list : List ℕ)
             × (self.new.joining.needs ≡ self.old.joining.needs ++ list ∷ [])) }
         ensures needs { OnOk result (self.new.needs.items ≡ map (served_at self.new.messages.items)
             (needs_of self.new.joining.needs (length self.new.messages.items))) }
     {
-        self.joining.join(self.spans, self.case.assigned.of(m))?;
+        self.joining.join(self.spans, self.case.assigned, m)?;
         self.messages.push(m)?;
         self.needs.clear();
         for place in self.joining.of(self.messages.len() as u32) {

@@ -19,6 +19,7 @@ ghost use Rattle.waff_list.specs.Telling.{basis_of};
 ghost use Rattle.waff_list.specs.Seats.{IsInOrder};
 ghost use Rattle.waff_list.specs.Seating.{worker_of};
 ghost use Rattle.waff_list.specs.Unique.{AreSeated};
+ghost use Rattle.waff_assign.specs.Held.{AreKnown};
 
 use crate::WorkerPlan;
 use crate::issued::Issued;
@@ -149,7 +150,7 @@ pub fn list_chain(
     made: &WorkerPlan,
 ) -> Result<Chain, AllocError>
     requires lengths { length made.now.plan.timings ≡ length assigned.now }
-    requires known { All (λ a. a < length tree.now) assigned.now }
+    requires known { AreKnown tree.now assigned.now }
     requires served { has_clients made.now.plan.version ≡ true
         → Obeys (served_in tree.now assigned.now made.now.plan)
         (work_in made.now.plan) (starts_in made.now.plan) }

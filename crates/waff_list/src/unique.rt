@@ -10,6 +10,7 @@ ghost use Rattle.waff_order.specs.Needs.{IsNeed, AreNeeds};
 ghost use Rattle.waff_list.specs.ListRule.{IsTakenFirst, IsListPlan, arrival};
 ghost use Rattle.waff_list.specs.Unique.{EachRuns, IsTotalOrder, ListPlanIsOne, RulePlanIsOne};
 ghost use Rattle.waff_list.specs.Unique.{ListPlansAreShared, SeatsAreOne, OrderIsOne};
+ghost use Rattle.waff_assign.specs.Held.{Held};
 
 /// Of two messages one is taken first, whatever their priority; by arrival it is the one that arrived
 /// first.
@@ -21,15 +22,15 @@ pub fn one_is_taken_first()
 /// The list plan for a number of workers is one: over the ordered pairs, over the paths through
 /// needs, whichever needs they are, and by each of the rules.
 pub fn list_plan_is_one()
-    ensures pairs { (tree : List Node) (assigned : List ℕ) (work : Work)
+    ensures pairs { (tree : List Node) (assigned : List Held) (work : Work)
         (priority other : ℕ → ℕ) → length assigned ≡ work.count → AwaitsEarlier work
         → EachRuns work → ListPlanIsOne
         (IsOrdered tree assigned) (IsTakenFirst priority) (IsTakenFirst other) work }
-    ensures needs { (tree : List Node) (assigned : List ℕ) (needs : List (List ℕ)) (work : Work)
+    ensures needs { (tree : List Node) (assigned : List Held) (needs : List (List ℕ)) (work : Work)
         (priority other : ℕ → ℕ) → length assigned ≡ work.count → AwaitsEarlier work
         → EachRuns work → AreNeeds tree assigned needs → ListPlanIsOne
         (Path (IsNeed needs)) (IsTakenFirst priority) (IsTakenFirst other) work }
-    ensures rules { (tree : List Node) (assigned : List ℕ) (work : Work)
+    ensures rules { (tree : List Node) (assigned : List Held) (work : Work)
         → length assigned ≡ work.count → AwaitsEarlier work
         → EachRuns work → RulePlanIsOne (IsOrdered tree assigned) work }
 {}
@@ -40,10 +41,10 @@ pub fn same_paths_have_the_same_plans()
     ensures sets { (needs others : List (List ℕ)) (work : Work) (priority : ℕ → ℕ)
         → ListPlansAreShared (IsNeed needs) (IsNeed others) (IsTakenFirst priority) work }
     ensures hierarchies { (tree other_tree : List Node)
-        (assigned other_assigned : List ℕ) (work : Work) (priority : ℕ → ℕ)
+        (assigned other_assigned : List Held) (work : Work) (priority : ℕ → ℕ)
         → ListPlansAreShared (IsOrdered tree assigned) (IsOrdered other_tree other_assigned)
         (IsTakenFirst priority) work }
-    ensures needs { (tree : List Node) (assigned : List ℕ) (needs : List (List ℕ)) (work : Work)
+    ensures needs { (tree : List Node) (assigned : List Held) (needs : List (List ℕ)) (work : Work)
         (priority : ℕ → ℕ) (k : ℕ) (start : ℕ → ℕ) → AreNeeds tree assigned needs
         → IsListPlan (Path (IsNeed needs)) (IsTakenFirst priority) work k start
         ↔ IsListPlan (IsOrdered tree assigned) (IsTakenFirst priority) work k start }

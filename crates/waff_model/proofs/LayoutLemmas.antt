@@ -1,5 +1,5 @@
 -- Rows that are not refused give a layout.
-use Rattle.std.proofs.Common.{◌≡◌, ◌≢◌, ℕ, suc, zero-add, ◌+◌, ◌*◌, ◌<◌, ◌≤◌, inl, inr, Bool, true, false, not, cond, nat_lt, ◌==◌, ◌||◌, List, [], ◌∷◌, length, map, take, get_or, Some, None, unwrap_or, find, All, AllPairs, Contains, count_by, sum_by, refl, ap, sym, ◌∙◌, arith}
+use Rattle.std.proofs.Common.{◌≡◌, ◌≢◌, ℕ, zero, suc, zero-add, ◌+◌, ◌*◌, ◌<◌, ◌≤◌, inl, inr, Bool, true, false, not, cond, nat_lt, ◌==◌, ◌||◌, List, [], ◌∷◌, length, map, take, get_or, Some, None, unwrap_or, find, All, AllPairs, Contains, count_by, sum_by, refl, ap, sym, ◌∙◌, arith}
 use Rattle.std.specs.Prelude.{is_none, ℤ, pos, negsuc}
 use Rattle.std.specs.List.{list_any}
 use Rattle.std.specs.Str.{bytes_eq}
@@ -12,8 +12,9 @@ use Rattle.std.proofs.lemmas.List.Sums.{sum_by-le, sum_by-cons, sum_by_more_le, 
 use Rattle.std.proofs.lemmas.Slice.Eq.{bytes_eq-Decides}
 use Rattle.waff_model.specs.declared.limits.TheConstants.{MAX_SPACES, MAX_LARGE_SIZE, MAX_OWNERS}
 use Rattle.waff_model.specs.declared.format.Format.{Format}
-use Rattle.waff_model.specs.declared.format.Format.TheVariants.{F1, F2}
+use Rattle.waff_model.specs.declared.format.Format.TheVariants.{F1, F2, F3}
 use Rattle.waff_model.specs.declared.kind.Kind.{Kind}
+use Rattle.waff_model.specs.declared.locking.Locking.TheVariants.{Unlocked}
 use Rattle.waff_model.specs.declared.layout_rows.SpaceSpec.{SpaceSpec}
 use Rattle.waff_model.specs.declared.layout_rows.MapSpec.{MapSpec}
 use Rattle.waff_model.specs.Names.{is_name}
@@ -21,7 +22,7 @@ use Rattle.waff_model.specs.Tree.{Node, IsTree, number_of}
 use Rattle.waff_model.specs.Formats.{max_size_of, max_unit_of}
 use Rattle.waff_model.specs.Layout.{Hierarchy, Space, IsSpace, IsLayout, HasFewCells}
 use Rattle.waff_model.specs.LayoutRefusal.{within, spaces_named, maps_named, layout_checks, layout_refusal, are_bad_owners, has_too_many_cells}
-use Rattle.waff_model.specs.LayoutOf.{owners_of, space_of, hierarchy_of}
+use Rattle.waff_model.specs.LayoutOf.{owners_of, map_of, space_of, hierarchy_of}
 use Rattle.waff_model.proofs.RefusalLemmas.{none_holds}
 
 -- where no element passes, each fails
@@ -61,6 +62,34 @@ found {X} p (x ∷ xs) counted =
           (rest.0, ap (λ b. cond b (Some x) (find p xs)) fails ∙ rest.1, (suc rest.2.0, omega (arith, rest.2.1), rest.2.2))
     ]
 
+-- where none counts, none is found
+pub none_found : {X : Type 0} (p : X → Bool) (xs : List X) → (count_by p xs == 0) ≡ true → find p xs ≡ None
+none_found p [] none = refl
+none_found {X} p (x ∷ xs) none =
+    let one : X → ℕ = λ y. cond (p y) 1 0 in
+    let counts : count_by p (x ∷ xs) ≡ one x + count_by p xs = sum_by-cons one x xs in
+    elim (cases_Bool (p x)) [
+      | inl passes ↦
+          let first : one x ≡ 1 = ap (λ b. cond b 1 0) passes in
+          let some : 0 < count_by p (x ∷ xs) = omega (arith, counts, first) in
+          let fails : (count_by p (x ∷ xs) == 0) ≡ false = grind (arith, nat_tests, some) in
+          absurd (cc)
+      | inr fails ↦
+          let less : count_by p (x ∷ xs) ≡ count_by p xs = counts ∙ ap (λ b. cond b 1 0 + count_by p xs) fails ∙ zero-add (count_by p xs) in
+          ap (λ b. cond b (Some x) (find p xs)) fails ∙ none_found p xs (ap (λ n. n == 0) (sym less) ∙ none)
+    ]
+
+-- every format has a unit of one cell
+unit_below : (format : Format) → 1 ≤ max_unit_of format
+unit_below F1 = omega arith
+unit_below F2 = omega arith
+unit_below F3 = omega arith
+
+-- the root alone is an affinity, where there is one
+root_within : (count : ℕ) → 0 < count → All (λ a. a < count) (0 ∷ [])
+root_within count some zero d inside = some
+root_within count some (suc k) d inside = absurd (omega arith)
+
 -- a number within its limit
 is_within : (z : ℤ) (limit : ℕ) → is_none (within z limit) ≡ false → (0 < unwrap_or (within z limit) 0) × (unwrap_or (within z limit) 0 ≤ limit)
 is_within (pos n) limit some = grind (arith, nat_tests)
@@ -88,30 +117,45 @@ are_owners tree names good =
     }
 
 module _ (format : Format) (tree : List Node) (maps : List MapSpec) where
-  -- a space of a name and a size within the limits, which has a map, has a space's numbers
-  is_space : (space : SpaceSpec) → not (is_name space.name) ≡ false → is_none (within space.size (max_size_of format)) ≡ false → (maps_named maps space.name == 0) ≡ false
+  -- a space of a name and a size within the limits has a space's numbers: those of its map, or of the root where it has none
+  is_space : 0 < length tree → (space : SpaceSpec) → not (is_name space.name) ≡ false → is_none (within space.size (max_size_of format)) ≡ false
       → All (λ m. is_none (within m.unit (max_unit_of format)) ≡ false) maps → All (λ m. are_bad_owners tree m.to ≡ false) maps
       → IsSpace format tree (space_of format tree maps space)
-  is_space space name size mapped units owners =
-      let mine = found (λ m. bytes_eq m.space space.name) maps mapped in
-      let unit = is_within mine.0.unit (max_unit_of format) (All-contains (λ m. is_none (within m.unit (max_unit_of format)) ≡ false) maps mine.0 units mine.2) in
-      let to = are_owners tree mine.0.to (All-contains (λ m. are_bad_owners tree m.to ≡ false) maps mine.0 owners mine.2) in
+  is_space filled space name size units owners =
       let cells = is_within space.size (max_size_of format) size in
-      record {
-        named = not_false (is_name space.name) name;
-        filled = cells.0;
-        size = cells.1;
-        whole = rw mine.1 unit.0;
-        unit = rw mine.1 unit.1;
-        owned = rw mine.1 to.owned;
-        owners = rw mine.1 to.owners;
-        affinities = rw mine.1 to.affinities;
-      }
+      elim (cases_Bool (maps_named maps space.name == 0)) [
+        | inl bare ↦
+            let none : map_of maps space.name ≡ None = none_found (λ m. bytes_eq m.space space.name) maps bare in
+            record {
+              named = not_false (is_name space.name) name;
+              filled = cells.0;
+              size = cells.1;
+              whole = rw none (omega arith);
+              unit = rw none (unit_below format);
+              owned = rw none (omega arith);
+              owners = rw none (omega arith);
+              affinities = rw none (root_within (length tree) filled);
+            }
+        | inr mapped ↦
+            let mine = found (λ m. bytes_eq m.space space.name) maps mapped in
+            let unit = is_within mine.0.unit (max_unit_of format) (All-contains (λ m. is_none (within m.unit (max_unit_of format)) ≡ false) maps mine.0 units mine.2) in
+            let to = are_owners tree mine.0.to (All-contains (λ m. are_bad_owners tree m.to ≡ false) maps mine.0 owners mine.2) in
+            record {
+              named = not_false (is_name space.name) name;
+              filled = cells.0;
+              size = cells.1;
+              whole = rw mine.1 unit.0;
+              unit = rw mine.1 unit.1;
+              owned = rw mine.1 to.owned;
+              owners = rw mine.1 to.owners;
+              affinities = rw mine.1 to.affinities;
+            }
+      ]
 
   -- spaces that are named once have different names
   are_different : (spaces : List SpaceSpec) → All (λ s. nat_lt 1 (spaces_named spaces s.name) ≡ false) spaces → AllPairs (λ s t. s.name ≢ t.name) (map (space_of format tree maps) spaces)
   are_different spaces once i j d before inside same =
-      let none : SpaceSpec = record { name = []; size = pos 0 } in
+      let none : SpaceSpec = record { name = []; size = pos 0; locks = Unlocked } in
       let inside' : j < length spaces = simp length-map at inside in
       let before' : i < length spaces = omega arith in
       let name : List ℕ = (get_or spaces i none).name in
@@ -126,6 +170,7 @@ module _ (format : Format) (tree : List Node) (maps : List MapSpec) where
 pub size_below : (format : Format) → max_size_of format ≤ MAX_LARGE_SIZE
 size_below F1 = omega arith
 size_below F2 = omega arith
+size_below F3 = omega arith
 
 -- how many cells there are at most
 pub cells_within : (layout : Hierarchy) → IsLayout layout → sum_by (λ space. space.size) layout.spaces ≤ MAX_SPACES * MAX_LARGE_SIZE
@@ -140,6 +185,7 @@ has_few_cells : (format : Format) (tree : List Node) (maps : List MapSpec) (spac
     → format ≡ F1 → HasFewCells (map (space_of format tree maps) spaces)
 has_few_cells F1 tree maps spaces few is = rw (fold-map (λ a (s : Space). a + s.size) (space_of F1 tree maps) 0 spaces) (grind (arith, nat_tests, few))
 has_few_cells F2 tree maps spaces few is = absurd (cc)
+has_few_cells F3 tree maps spaces few is = absurd (cc)
 
 -- rows that are not refused give a layout
 pub is_layout : (format : Format) (kind : Kind) (tree : List Node) (spaces : List SpaceSpec) (maps : List MapSpec) → IsTree tree → layout_refusal format tree spaces maps ≡ None → IsLayout (hierarchy_of format kind tree spaces maps)
@@ -153,7 +199,6 @@ is_layout format kind tree spaces maps is_tree none =
     let names = fails_each (λ (s : SpaceSpec). not (is_name s.name)) spaces (or_parts bad_name strange_map space.1).0 in
     let sizes = fails_each (λ (s : SpaceSpec). is_none (within s.size (max_size_of format))) spaces checks.1.0 in
     let once = fails_each (λ (s : SpaceSpec). nat_lt 1 (spaces_named spaces s.name)) spaces checks.1.1.0 in
-    let mapped = fails_each (λ (s : SpaceSpec). maps_named maps s.name == 0) spaces checks.1.1.1.0 in
     let units = fails_each (λ (m : MapSpec). is_none (within m.unit (max_unit_of format))) maps checks.1.1.1.1.1.0 in
     let owners = fails_each (λ (m : MapSpec). are_bad_owners tree m.to) maps checks.1.1.1.1.1.1.0 in
     let few : has_too_many_cells format spaces ≡ false = checks.1.1.1.1.1.1.1.0 in
@@ -162,7 +207,7 @@ is_layout format kind tree spaces maps is_tree none =
       some = simp length-map (grind (arith, nat_tests, count.0));
       few = simp length-map (grind (arith, nat_tests, count.1));
       each = All-map (IsSpace format tree) (space_of format tree maps) spaces
-          (λ k d inside. is_space format tree maps (get_or spaces k d) (names k d inside) (sizes k d inside) (mapped k d inside) units owners);
+          (λ k d inside. is_space format tree maps is_tree.filled (get_or spaces k d) (names k d inside) (sizes k d inside) units owners);
       different = are_different format tree maps spaces once;
       cells = has_few_cells format tree maps spaces few;
     }

@@ -17,3 +17,5 @@ pub mod OpCells
 pub mod Members
 pub mod DistinctNameLemmas
 mod PartLemmas
+pub mod Unlocking
+pub mod Relocking

@@ -17,6 +17,18 @@ cells_of_op (Read cell) = cell ∷ []
 abbrev pub cells_of : List Op → List Cell
 cells_of ops = flat_map cells_of_op ops
 
+-- the cells that an operation writes
+abbrev pub cells_written_by : Op → List Cell
+cells_written_by (Set cell value) = cell ∷ []
+cells_written_by (Add cell value) = cell ∷ []
+cells_written_by (Copy cell source) = cell ∷ []
+cells_written_by (Swap cell other) = cell ∷ other ∷ []
+cells_written_by (Read cell) = []
+
+-- the cells that operations write, in order
+abbrev pub cells_written : List Op → List Cell
+cells_written ops = flat_map cells_written_by ops
+
 -- the cell lies in spaces of these sizes: its space is one of them, and its index is below the size
 abbrev pub LiesIn : List ℕ → Cell → Type 0
 LiesIn sizes cell = cell.index < slice_index sizes cell.space

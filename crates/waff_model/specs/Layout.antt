@@ -1,7 +1,9 @@
 -- Layouts: spaces of cells over a tree of affinities, and the owner of each cell.
-use Rattle.std.specs.Prelude.{◌≡◌, ◌≢◌, ℕ, ◌/◌, ◌%◌, ◌<◌, ◌≤◌, IsTrue, List, length, map, Option}
+use Rattle.std.specs.Prelude.{◌≡◌, ◌≢◌, ℕ, ◌/◌, ◌%◌, ◌<◌, ◌≤◌, Bool, true, false, IsTrue, List, [], ◌∷◌, length}
+use Rattle.std.specs.Prelude.{map, Option}
 use Rattle.std.specs.Prelude.{option_map, unwrap_or, slice_get, slice_index, position, sum_by, All}
 use Rattle.std.specs.Prelude.{AllPairs}
+use Rattle.std.specs.List.{list_any}
 use Rattle.std.specs.Str.{bytes_eq}
 use Rattle.waff_model.specs.Names.{is_name}
 use Rattle.waff_model.specs.Tree.{Node, IsTree}
@@ -11,14 +13,17 @@ use Rattle.waff_model.specs.declared.cell.Cell.{Cell}
 use Rattle.waff_model.specs.declared.format.Format.{Format}
 use Rattle.waff_model.specs.declared.format.Format.TheVariants.{F1}
 use Rattle.waff_model.specs.declared.kind.Kind.{Kind}
+use Rattle.waff_model.specs.declared.locking.Locking.{Locking}
+use Rattle.waff_model.specs.declared.locking.Locking.TheVariants.{Unlocked, Exclusive, Shared}
 
 -- a space of cells with its map: runs of `unit` cells go to the affinities of `to` in turn, over
--- and over
+-- and over; and whether its cells have locks
 pub record Space : Type 0 where
   pub name : List ℕ
   pub size : ℕ
   pub unit : ℕ
   pub to : List ℕ
+  pub locks : Locking
 
 -- what a layout stands for: its format, its kind, its tree of affinities, and its spaces, numbered
 -- from 0
@@ -73,6 +78,47 @@ owner_at space index = slice_index space.to ((index / space.unit) % length space
 abbrev pub owner_of : List Space → Cell → ℕ
 owner_of spaces cell =
     unwrap_or (option_map (λ space. owner_at space cell.index) (slice_get spaces cell.space)) 0
+
+-- whether the cell has a lock, and of which kind: each cell of a space with locks has one
+abbrev pub locking_of : List Space → Cell → Locking
+locking_of spaces cell =
+    unwrap_or (option_map (λ space. space.locks) (slice_get spaces cell.space)) Unlocked
+
+-- it has a lock
+abbrev pub IsLocked : List Space → Cell → Type 0
+IsLocked spaces cell = locking_of spaces cell ≢ Unlocked
+
+-- cells of this kind have locks
+abbrev pub are_locked : Locking → Bool
+are_locked Unlocked = false
+are_locked Exclusive = true
+are_locked Shared = true
+
+-- some space has locks
+abbrev pub has_locks : List Space → Bool
+has_locks spaces = list_any (λ space. are_locked space.locks) spaces
+
+-- the space, with no locks
+abbrev pub unlocked_space : Space → Space
+unlocked_space space = record space { locks = Unlocked }
+
+-- the layout, with no locks
+abbrev pub unlocked : Hierarchy → Hierarchy
+unlocked layout = record layout { spaces = map unlocked_space layout.spaces }
+
+-- the locks of spaces, one kind for each
+abbrev pub lockings_of : List Space → List Locking
+lockings_of spaces = map (λ space. space.locks) spaces
+
+-- the spaces with these locks, one kind for each in order: names, sizes and maps stay
+abbrev pub spaces_with : List Space → List Locking → List Space
+spaces_with [] lockings = []
+spaces_with (space ∷ spaces) [] = space ∷ spaces
+spaces_with (space ∷ spaces) (locking ∷ lockings) = record space { locks = locking } ∷ spaces_with spaces lockings
+
+-- the layout with these locks
+abbrev pub with_lockings : Hierarchy → List Locking → Hierarchy
+with_lockings layout lockings = record layout { spaces = spaces_with layout.spaces lockings }
 
 -- there are few cells over all spaces, so that each can be kept
 abbrev pub HasFewCells : List Space → Type 0

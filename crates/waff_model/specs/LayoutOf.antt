@@ -1,5 +1,5 @@
 -- The layout that rows of spaces and maps stand for.
-use Rattle.std.specs.Prelude.{ℕ, List, [], Option, Some, None, option_map, unwrap_or, map, find}
+use Rattle.std.specs.Prelude.{ℕ, List, [], ◌∷◌, Option, Some, None, option_map, unwrap_or, map, find}
 use Rattle.std.specs.Prelude.{Result, Ok, Err}
 use Rattle.std.specs.Str.{bytes_eq}
 use Rattle.waff_model.specs.Tree.{Node, number_of}
@@ -19,13 +19,14 @@ owners_of tree names = map (λ name. unwrap_or (number_of tree name) 0) names
 abbrev pub map_of : List MapSpec → List ℕ → Option MapSpec
 map_of maps name = find (λ m. bytes_eq m.space name) maps
 
--- the space of a row, with its map
+-- the space of a row, with its map: where it has none, all its cells go to the root
 abbrev pub space_of : Format → List Node → List MapSpec → SpaceSpec → Space
 space_of format tree maps space = record {
   name = space.name;
   size = size_of format space;
-  unit = unwrap_or (option_map (unit_of format) (map_of maps space.name)) 0;
-  to = unwrap_or (option_map (λ m. owners_of tree m.to) (map_of maps space.name)) [];
+  unit = unwrap_or (option_map (unit_of format) (map_of maps space.name)) 1;
+  to = unwrap_or (option_map (λ m. owners_of tree m.to) (map_of maps space.name)) (0 ∷ []);
+  locks = space.locks;
 }
 
 -- the layout of these rows over the tree, where none of them is refused

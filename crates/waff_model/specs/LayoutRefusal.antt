@@ -8,9 +8,10 @@ use Rattle.waff_model.specs.Names.{is_name}
 use Rattle.waff_model.specs.Refusals.{first_refusal}
 use Rattle.waff_model.specs.Tree.{Node, number_of}
 use Rattle.waff_model.specs.Formats.{max_size_of, max_unit_of}
+use Rattle.waff_model.specs.Layout.{are_locked}
 use Rattle.waff_model.specs.declared.limits.TheConstants.{MAX_SPACES, MAX_CELLS, MAX_OWNERS}
 use Rattle.waff_model.specs.declared.format.Format.{Format}
-use Rattle.waff_model.specs.declared.format.Format.TheVariants.{F1, F2}
+use Rattle.waff_model.specs.declared.format.Format.TheVariants.{F1, F2, F3}
 use Rattle.waff_model.specs.declared.layout_rows.SpaceSpec.{SpaceSpec}
 use Rattle.waff_model.specs.declared.layout_rows.MapSpec.{MapSpec}
 use Rattle.waff_model.specs.declared.layout_rows.LayoutError.{LayoutError}
@@ -51,9 +52,9 @@ has_bad_size format spaces = list_any (λ s. is_none (within s.size (max_size_of
 abbrev pub has_space_twice : List SpaceSpec → Bool
 has_space_twice spaces = list_any (λ s. nat_lt 1 (spaces_named spaces s.name)) spaces
 
--- a space without map
+-- a space without locks and without map
 abbrev pub has_no_map : List SpaceSpec → List MapSpec → Bool
-has_no_map spaces maps = list_any (λ s. maps_named maps s.name == 0) spaces
+has_no_map spaces maps = list_any (λ s. not (are_locked s.locks) && maps_named maps s.name == 0) spaces
 
 -- a space with two maps
 abbrev pub has_map_twice : List SpaceSpec → List MapSpec → Bool
@@ -77,6 +78,7 @@ has_bad_owners tree maps = list_any (λ m. are_bad_owners tree m.to) maps
 abbrev pub has_too_many_cells : Format → List SpaceSpec → Bool
 has_too_many_cells F1 spaces = nat_lt MAX_CELLS (sum_by (size_of F1) spaces)
 has_too_many_cells F2 spaces = false
+has_too_many_cells F3 spaces = false
 
 -- what is checked before rows become a layout over the tree, in order
 abbrev pub layout_checks : Format → List Node → List SpaceSpec

@@ -3,11 +3,13 @@
 ghost use Rattle.std.specs.List.{list_all, zip};
 ghost use Rattle.std.specs.Str.{bytes_eq};
 ghost use Rattle.std.specs.Prelude.{◌≡◌, ◌↔◌, ◌+◌, ◌<◌, ◌≤◌, ◌==◌, ◌&&◌, length, map, find};
-ghost use Rattle.std.specs.Prelude.{[], ◌∷◌, ◌++◌};
+ghost use Rattle.std.specs.Prelude.{[], ◌∷◌, ◌++◌, false};
 ghost use Rattle.std.specs.Prelude.{option_map, unwrap_or, None, Some, IsTrue, IfOk, IfErr, IfSome, OnOk};
 ghost use Rattle.waff_model.specs.Tree.{IsTree, number_of};
 ghost use Rattle.waff_model.specs.Layout.{IsLayout, IsCell, SameSpaces, name_at, size_at};
-ghost use Rattle.waff_model.specs.Layout.{unit_at, owners_at};
+ghost use Rattle.waff_model.specs.Layout.{unit_at, owners_at, locking_of};
+ghost use Rattle.waff_model.specs.Layout.{has_locks, unlocked, unlocked_space};
+ghost use Rattle.waff_model.specs.Layout.{lockings_of, spaces_with, with_lockings};
 ghost use Rattle.waff_model.specs.Layout.{space_named, owner_of, HasFewCells};
 ghost use Rattle.waff_model.specs.LayoutOf.{owners_of, map_of, space_of, hierarchy_of};
 ghost use Rattle.waff_model.specs.LayoutRefusal.{layout_refusal};
@@ -18,17 +20,20 @@ use crate::format::Format;
 use crate::kind::Kind;
 use crate::layout_rows::{LayoutError, MapSpec, SpaceSpec, refusal, size_of, unit_of};
 use crate::limits::MAX_CELLS;
+use crate::locking::Locking;
 use crate::name::Text;
 use crate::space::Space;
 use crate::tree::{AffinityId, Tree};
 use std::alloc::{AllocError, Global};
 use std::marker::Model;
+use std::sync::Arc;
 
 /// Spaces of cells, numbered from 0, each with a map that gives its cells to affinities of a tree.
 pub struct Layout {
     format: Format,
     kind: Kind,
-    tree: Tree,
+    /// Shared with the layouts that differ from this one in their locks alone.
+    tree: Arc<Tree>,
     spaces: Vec<Space>,
 }
 
@@ -40,14 +45,14 @@ impl Model for Layout {
     ghost view = { λ l. record {
       format = l.format;
       kind = l.kind;
-      tree = l.tree;
+      tree = l.tree.value;
       spaces = l.spaces.items;
     } };
 
     ghost invariant = { λ l. IsLayout (record {
       format = l.format;
       kind = l.kind;
-      tree = l.tree;
+      tree = l.tree.value;
       spaces = l.spaces.items;
     }) };
 }
@@ -103,12 +108,15 @@ impl Layout {
             e ≡ unwrap_or (layout_refusal format tree spaces.now maps.now) LayoutError.Memory) }
     {
         match spaces_or_refusal(alloc, format, &tree, spaces, maps) {
-            Ok(spaces) => Ok(Layout {
-                format,
-                kind,
-                tree,
-                spaces,
-            }),
+            Ok(spaces) => match shared_tree(alloc, tree) {
+                Ok(tree) => Ok(Layout {
+                    format,
+                    kind,
+                    tree,
+                    spaces,
+                }),
+                Err(_) => Err(LayoutError::Memory),
+            },
             Err(refusal) => Err(refusal),
         }
     }
@@ -237,6 +245,103 @@ impl Layout {
         let to = space.to();
         AffinityId(to[(cell.index / space.unit()) as usize % to.len()])
     }
+
+    /// Whether the cell has a lock, and of which kind.
+    pub fn locking(&self, cell: Cell) -> Locking
+        requires { IsCell self.now.spaces cell }
+        ensures { result ≡ locking_of self.now.spaces cell }
+    {
+        self.spaces[cell.space as usize].locks()
+    }
+
+    /// Whether some space has locks.
+    pub fn has_locks(&self) -> bool
+        ensures { result ≡ has_locks self.now.spaces }
+    {
+        self.spaces.iter().any(|space| space.locks().are_some())
+    }
+
+    /// The layout with no locks, made in place: names, sizes and maps stay.
+    pub fn without_locks(self) -> Layout
+        ensures layout { result ≡ unlocked self }
+        ensures none { has_locks result.spaces ≡ false }
+    {
+        let Layout {
+            format,
+            kind,
+            tree,
+            mut spaces,
+        } = self;
+        unlock(&mut spaces);
+        Layout {
+            format,
+            kind,
+            tree,
+            spaces,
+        }
+    }
+}
+
+impl Layout {
+    /// The kinds of locks of all spaces.
+    pub fn lockings(&self, alloc: Global) -> Result<Vec<Locking>, AllocError>
+        ensures { IfOk result (λ lockings. lockings.items ≡ lockings_of self.now.spaces) }
+    {
+        lockings(alloc, &self.spaces)
+    }
+
+    /// The layout with these kinds of locks, one for each space: names, sizes and maps stay, and both share the tree.
+    pub fn with_lockings(&self, alloc: Global, lockings: &[Locking]) -> Result<Layout, AllocError>
+        requires { length lockings.now ≡ length self.now.spaces }
+        ensures { IfOk result (λ layout. layout ≡ with_lockings self.now lockings.now) }
+    {
+        let spaces = with_lockings(alloc, &self.spaces, lockings)?;
+        Ok(Layout {
+            format: self.format,
+            kind: self.kind,
+            tree: Arc::try_clone(&self.tree)?,
+            spaces,
+        })
+    }
+}
+
+/// The tree, to be shared.
+fn shared_tree(alloc: Global, tree: Tree) -> Result<Arc<Tree>, AllocError>
+    ensures { IfOk result (λ shared. shared.value ≡ tree) }
+{
+    Ok(Arc::new(alloc, tree)?)
+}
+
+/// The kinds of locks of the spaces.
+fn lockings(alloc: Global, spaces: &[Space]) -> Result<Vec<Locking>, AllocError>
+    ensures { IfOk result (λ lockings. lockings.items ≡ lockings_of spaces.now) }
+{
+    spaces.iter().map(|space| space.locks()).collect(alloc)
+}
+
+/// The spaces with these kinds of locks.
+fn with_lockings(
+    alloc: Global,
+    spaces: &[Space],
+    lockings: &[Locking],
+) -> Result<Vec<Space>, AllocError>
+    requires { length lockings.now ≡ length spaces.now }
+    ensures { IfOk result (λ made. made.items ≡ spaces_with spaces.now lockings.now) }
+{
+    let mut made = Vec::with_capacity(alloc, spaces.len())?;
+    for s in 0..spaces.len() {
+        made.push(spaces[s].with_locks(alloc, lockings[s])?)?;
+    }
+    Ok(made)
+}
+
+/// Takes the locks of all spaces away.
+fn unlock(spaces: &mut Vec<Space>)
+    ensures { spaces.new.items ≡ map unlocked_space spaces.old.items }
+{
+    for space in spaces.iter_mut() {
+        space.locks = Locking::Unlocked;
+    }
 }
 
 /// The spaces of the rows, with their maps, or why the rows are refused.
@@ -294,7 +399,7 @@ fn spaces_of(
     Ok(made)
 }
 
-/// Appends the space of a row, with its map.
+/// Appends the space of a row, with its map; where it has none, all its cells go to the root.
 fn add_space(
     made: &mut Vec<Space>,
     format: Format,
@@ -311,7 +416,7 @@ fn add_space(
             unit_of(format, map),
             owners(alloc, tree, map.to.as_slice())?,
         ),
-        None => (0, Vec::new(alloc)),
+        None => (1, vec![in alloc; 0; 1]?),
     };
     let name = Text::of(alloc, space.name.as_str())?;
     let size = size_of(format, space);
@@ -320,6 +425,7 @@ fn add_space(
         size,
         unit,
         to,
+        locks: space.locks,
     })?;
     Ok(())
 }

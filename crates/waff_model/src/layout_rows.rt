@@ -1,6 +1,6 @@
 //! The rows that a layout is made of, and why they are refused.
 
-ghost use Rattle.std.specs.Prelude.{◌≡◌, ◌≤◌, ◌==◌, not, is_none, length};
+ghost use Rattle.std.specs.Prelude.{◌≡◌, ◌≤◌, ◌==◌, ◌&&◌, not, is_none, length};
 ghost use Rattle.std.specs.List.{list_any};
 ghost use Rattle.waff_model.specs.Names as names;
 ghost use Rattle.waff_model.specs.Tree.{number_of};
@@ -8,15 +8,17 @@ ghost use Rattle.waff_model.specs.LayoutRefusal as spec;
 
 use crate::format::Format;
 use crate::limits::{MAX_CELLS, MAX_OWNERS, MAX_SPACES};
+use crate::locking::Locking;
 use crate::name::{Text, is_name};
 use crate::texts::Texts;
 use crate::tree::Tree;
 
-/// A space to be: its name, and its size in cells.
+/// A space to be: its name, its size in cells, and whether these have locks.
 #[derive(Drop)]
 pub struct SpaceSpec {
     pub name: Text,
     pub size: i64,
+    pub locks: Locking,
 }
 
 /// A map to be: the name of its space, how many cells in a row go to one affinity, and the names of
@@ -37,7 +39,7 @@ pub enum LayoutError {
     Size,
     /// Two spaces of one name.
     SpaceTwice,
-    /// A space without map.
+    /// A space without locks and without map.
     NoMap,
     /// A space with two maps.
     MapTwice,
@@ -136,9 +138,7 @@ fn has_space_twice(spaces: &[SpaceSpec]) -> bool
 fn has_no_map(spaces: &[SpaceSpec], maps: &[MapSpec]) -> bool
     ensures { result ≡ spec.has_no_map spaces.now maps.now }
 {
-    spaces
-        .iter()
-        .any(|s| maps_named(maps, s.name.as_str()) == 0)
+    spaces.iter().any(|s| !s.locks.are_some() && maps_named(maps, s.name.as_str()) == 0)
 }
 
 fn has_map_twice(spaces: &[SpaceSpec], maps: &[MapSpec]) -> bool
@@ -181,7 +181,7 @@ fn has_too_many_cells(format: Format, spaces: &[SpaceSpec]) -> bool
             let cells: u32 = spaces.iter().map(|s| size_of(Format::F1, s)).sum();
             MAX_CELLS < cells
         }
-        Format::F2 => false,
+        Format::F2 | Format::F3 => false,
     }
 }
 

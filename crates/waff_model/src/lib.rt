@@ -5,7 +5,7 @@
 //!   each, with those below it): affinities, each below its parent. `spans`: tables by those places,
 //!   for the crates that plan and order.
 //! - `layout`, over `layout_rows` (what it is made of, and why that is refused) and `space`: which
-//!   affinity owns each cell; `parcels`: where a cell stands among the cells of its owner.
+//!   affinity owns each cell; `locking`: whether it has a lock; `parcels`: where a cell stands among the cells of its owner.
 //! - `trace`, over `parts`, `message`, `awaits`, `op`, `ops` over `packed_op`: messages with their costs, releases
 //!   (in ticks), the messages that they await, and operations on cells.
 //! - `cell`, `client`, `kind`, `name`, `texts`: the small parts; `distinct_names`: names, each once;
@@ -38,6 +38,7 @@ pub mod laws;
 mod layout;
 mod layout_rows;
 pub mod limits;
+mod locking;
 mod message;
 mod name;
 mod nodes;
@@ -61,6 +62,7 @@ pub use format::Format;
 pub use kind::Kind;
 pub use layout::Layout;
 pub use layout_rows::{LayoutError, MapSpec, SpaceSpec};
+pub use locking::Locking;
 pub use message::{Message, Version};
 pub use name::{Text, is_name};
 pub use op::{Op, Verb};

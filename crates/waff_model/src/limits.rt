@@ -15,10 +15,10 @@ pub const MAX_CELLS: u32 = 262_144;
 /// The unit of a map of a hierarchy of format 1, in cells.
 pub const MAX_UNIT: u32 = 262_144;
 
-/// The size of a space of a hierarchy of format 2, in cells.
+/// The size of a space of a hierarchy of format 2 or 3, in cells.
 pub const MAX_LARGE_SIZE: u32 = 4_294_967_295;
 
-/// The unit of a map of a hierarchy of format 2, in cells.
+/// The unit of a map of a hierarchy of format 2 or 3, in cells.
 pub const MAX_LARGE_UNIT: u32 = 4_294_967_295;
 
 /// Affinities that a map lists.

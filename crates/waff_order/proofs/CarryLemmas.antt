@@ -1,5 +1,5 @@
 -- What is noted at the affinities of a tree, carried down to all below.
-use Rattle.std.proofs.Common.{◌≡◌, ◌≢◌, ℕ, ◌+◌, ◌<◌, ◌≤◌, ◌⊎◌, List, length, get_or, set, Option, Some, None, IfSome, arith, refl, sym, ◌∙◌, subst, inl, inr}
+use Rattle.std.proofs.Common.{◌≡◌, ◌≢◌, ℕ, ◌+◌, ◌<◌, ◌≤◌, ◌⊎◌, List, length, get_or, set, Option, Some, None, arith, refl, sym, ◌∙◌, subst, inl, inr}
 use Rattle.std.specs.Prelude.{option_and_then}
 use Rattle.std.proofs.lemmas.Bool.{cases_eq, cases_lt}
 use Rattle.std.proofs.lemmas.List.{get_or-set_same, get_or-set_other, get_or_past}
@@ -7,7 +7,8 @@ use Rattle.waff_model.specs.Tree.{Node, parent_of, AtOrAbove, IsRooted}
 use Rattle.waff_model.specs.declared.tree.AffinityId.{AffinityId}
 use Rattle.waff_model.proofs.TreeLemmas.{reflexive, comparable, above_child, above_parent, above_root}
 use Rattle.waff_order.specs.Lowests.{IsLowestOf, IsLowestNoted, IsLower, IsApart, IsNotedAbove, above_of, Agree}
-use Rattle.waff_order.proofs.LowestLemmas.{excludes_back, noted_same, noted_is, noted_some, noted_either}
+use Rattle.waff_assign.proofs.Holding.{excludes_sym}
+use Rattle.waff_order.proofs.LowestLemmas.{noted_same, noted_is, noted_some, noted_either}
 
 -- at the affinities before n the lowest of what was noted there and above is noted, and at the
 -- others what was
@@ -60,12 +61,6 @@ module _ (tree coarse_tree : List Node) (old : List (Option AffinityId)) where
       → IsLowestNoted coarse_tree (IsNotedUp n) (above_of tree new n)
   up_noted rooted n new h = up_noted_by rooted n new h (parent_of tree n) refl
 
-  pub carried_none : (new : List (Option AffinityId)) → new ≡ old → IsCarried tree coarse_tree old 0 new
-  carried_none new same = record {
-    before = λ b below. absurd (omega arith);
-    after = λ b _. subst (λ x. get_or x b None ≡ get_or old b None) (sym same) refl;
-  }
-
   -- nothing is noted at the parent
   pub carried_alone : IsRooted tree → (n : ℕ) (new : List (Option AffinityId)) → above_of tree new n ≡ None
       → IsCarried tree coarse_tree old n new → IsCarried tree coarse_tree old (n + 1) new
@@ -108,7 +103,7 @@ module _ (tree coarse_tree : List Node) (old : List (Option AffinityId)) where
       → IsApart coarse_tree (get_or new n None) above → IsCarried tree coarse_tree old n new → Agree tree coarse_tree old → ⊥
   carried_apart rooted n new above is (own, noted, apart) h agree =
       let up = noted_up n above (noted_is coarse_tree (IsNotedUp n) (above_of tree new n) above is (up_noted rooted n new h)).one in
-      apart (excludes_back coarse_tree above.0 own.0 (agree up.place n above own up.above up.noted (sym (h.after n (omega arith)) ∙ noted)))
+      apart (excludes_sym coarse_tree above.0 own.0 (agree up.place n above own up.above up.noted (sym (h.after n (omega arith)) ∙ noted)))
 
   -- what is carried to all has something in common
   pub carried_all : (n : ℕ) (new : List (Option AffinityId)) → length old ≡ n → IsCarried tree coarse_tree old n new
@@ -122,8 +117,3 @@ module _ (tree coarse_tree : List Node) (old : List (Option AffinityId)) where
         (all.2.each y (record { place = b; above = reflexive tree b; noted = noted_b }))
     | inr past ↦ let none : get_or old b None ≡ None = get_or_past old b None (omega arith) in absurd (cc)
   ]
-
-  -- what is noted is within the coarse tree
-  pub up_within : (count : ℕ) → ((a : ℕ) → IfSome (get_or old a None) (λ low. low.0 < count)) → (a : ℕ) (x : AffinityId)
-      → IsNotedAbove tree old a x → x.0 < count
-  up_within count within a x h = subst (λ u. IfSome u (λ low. low.0 < count)) h.noted (within h.place)

@@ -1,75 +1,32 @@
 -- The lists that messages are given stay as they are where one message more joins, and are one.
-use Rattle.std.proofs.Common.{◌≡◌, ℕ, ◌+◌, ◌<◌, ◌≤◌, inl, inr, List, zero, suc, ◌-◌, [], ◌∷◌, ◌++◌, length, get_or, Contains, refl, sym, ◌∙◌, ap, subst, arith}
+use Rattle.std.proofs.Common.{◌≡◌, ◌≢◌, ℕ, ◌+◌, ◌<◌, ◌≤◌, List, zero, suc, ◌-◌, [], ◌∷◌, ◌++◌, length, get_or, Contains, refl, sym, ◌∙◌, ap, subst, inl, inr, arith}
 use Rattle.std.proofs.lemmas.Bool.{cases_lt}
 use Rattle.std.proofs.lemmas.List.{ext_get_or, get_or_append_left, get_or_push, length_push}
-use Rattle.std.proofs.lemmas.List.Elements.{All-contains}
 use Rattle.std.proofs.lemmas.List.Kept.{AllPairs-from_increasing}
 use Rattle.std.specs.List.{AllPairs}
+use Rattle.std.specs.List.Sorted.{IsStrictlyIncreasing}
 use Rattle.waff_model.specs.Tree.{Node}
-use Rattle.waff_assign.specs.Order.{Relation}
+use Rattle.waff_assign.specs.Held.{Held}
 use Rattle.waff_order.specs.Needs.{needs_of}
-use Rattle.waff_order.specs.Open.{IsAbove, IsOpen, AreTaken, IsLatestAbove, IsChosen, AreChosen, chosen}
-
--- what holds of two of the first messages by one relation holds by the other
-abbrev pub Implies : Relation → Relation → ℕ → Type 0
-Implies One Other count = (i j : ℕ) → 1 ≤ i → i ≤ count → 1 ≤ j → j ≤ count → One i j → Other i j
-
-open_as : (One Other : Relation) (count n i : ℕ) → n ≤ count → Implies Other One count → IsOpen One n i → IsOpen Other n i
-open_as One Other count n i few back h =
-    let from : 1 ≤ i = h.from in
-    let to : i ≤ n = h.to in
-    record { from = from; to = to; free = λ j after before is. h.free j after before (back j i (omega arith) (omega arith) from (omega arith) is) }
-
--- a list that is chosen by one relation is so by another that is the same on these messages
-module _ (One Other : Relation) (count n : ℕ) (room : n + 1 ≤ count) (to : Implies One Other count) (back : Implies Other One count) where
-  taken_as : (taken : List ℕ) → AreTaken One n taken → AreTaken Other n taken
-  taken_as taken h = record {
-    takes = λ k d within.
-        let there = h.takes k d within in
-        let from = there.0.from in
-        let before = there.0.to in
-        (open_as One Other count n _ (omega arith) back there.0, to (n + 1) _ (omega arith) room from (omega (arith, before)) there.1);
-    each = λ i is_open.
-        let from : 1 ≤ i = is_open.from in
-        let before : i ≤ n = is_open.to in
-        elim (h.each i (open_as Other One count n i (omega arith) to is_open)) [
-          | inl has ↦ inl has
-          | inr apart ↦ inr (λ is. apart (back (n + 1) i (omega arith) room from (omega arith) is))
-        ];
-    rising = h.rising;
-  }
-
-  latest_as : (above : ℕ) → IsLatestAbove One n (n + 1) above → IsLatestAbove Other n (n + 1) above
-  latest_as above h = record {
-    some = λ some. let there = h.some some in let before : above ≤ n = there.0 in (before, to above (n + 1) some (omega arith) (omega arith) room there.1);
-    latest = λ i from before is. h.latest i from before (back i (n + 1) from (omega arith) (omega arith) room is);
-  }
-
-  pub chosen_as : (needs : List ℕ) → IsChosen One n needs → IsChosen Other n needs
-  chosen_as needs h = record {
-    taken = h.taken;
-    above = h.above;
-    are_taken = taken_as h.taken h.are_taken;
-    is_latest = latest_as h.above h.is_latest;
-    chosen = h.chosen;
-  }
+use Rattle.waff_order.specs.Open.{IsChosen, AreChosen}
+use Rattle.waff_order.proofs.Agreeing.{Agree, chosen_as}
 
 -- one message more
-pub chosen_more : (tree : List Node) (assigned more : List ℕ) (needs : List (List ℕ)) (list : List ℕ) → length more ≡ length assigned + 1
-    → Implies (IsAbove tree assigned) (IsAbove tree more) (length assigned) → Implies (IsAbove tree more) (IsAbove tree assigned) (length assigned)
-    → AreChosen tree assigned needs → IsChosen (IsAbove tree more) (length assigned) list → AreChosen tree more (needs ++ list ∷ [])
-chosen_more tree assigned more needs list long to back h last = record {
+pub chosen_more : (tree : List Node) (assigned more : List Held) (needs : List (List ℕ)) (list : List ℕ) → length more ≡ length assigned + 1
+    → Agree assigned more (length assigned) → AreChosen tree assigned needs → IsChosen tree more (length assigned) list
+    → AreChosen tree more (needs ++ list ∷ [])
+chosen_more tree assigned more needs list long agree h last = record {
   count = length_push needs list ∙ omega (arith, h.count, long);
   each = λ n within. elim (cases_lt n (length assigned)) [
     | inl before ↦
         let same : needs_of (needs ++ list ∷ []) (n + 1) ≡ needs_of needs (n + 1) = get_or_append_left needs (list ∷ []) [] (n + 1 - 1) (omega (arith, h.count)) in
-        subst (IsChosen (IsAbove tree more) n) (sym same)
-        (chosen_as (IsAbove tree assigned) (IsAbove tree more) (length assigned) n (omega arith) to back (needs_of needs (n + 1)) (h.each n before))
+        subst (IsChosen tree more n) (sym same)
+        (chosen_as tree assigned more (length assigned) agree n (omega arith) (needs_of needs (n + 1)) (h.each n before))
     | inr past ↦
         let at : length assigned ≡ n = omega (arith, long) in
         let same : needs_of (needs ++ list ∷ []) (length assigned + 1) ≡ list = get_or_push needs list [] (length assigned + 1 - 1) (omega (arith, h.count)) in
-        subst (λ k. IsChosen (IsAbove tree more) k (needs_of (needs ++ list ∷ []) (k + 1))) at
-        (subst (IsChosen (IsAbove tree more) (length assigned)) (sym same) last)
+        subst (λ k. IsChosen tree more k (needs_of (needs ++ list ∷ []) (k + 1))) at
+        (subst (IsChosen tree more (length assigned)) (sym same) last)
   ];
 }
 
@@ -106,31 +63,43 @@ same_rising (x ∷ xs) (y ∷ ys) rises other_rises to back =
     (λ z has. let below : y < z = first_least y ys z other_rises has in rest_has x xs z (omega arith) (back z (one_more y ys z has))) in
     cc
 
--- what one choice takes, another takes
-taken_too : (Above : Relation) (n : ℕ) (one other : List ℕ) → AreTaken Above n one → AreTaken Above n other → (i : ℕ) → Contains one i → Contains other i
-taken_too Above n one other p q i has =
-    let there = All-contains (λ i. IsOpen Above n i × Above (n + 1) i) one i p.takes has in
-    elim (q.each i there.0) [ inl in_other ↦ in_other | inr apart ↦ absurd (apart there.1) ]
+-- a rising list is no longer than one that has its numbers
+without : (ys : List ℕ) (x : ℕ) → Contains ys x → (zs : List ℕ) × (length ys ≡ length zs + 1) × ((y : ℕ) → y ≢ x → Contains ys y → Contains zs y)
+without [] x has = absurd (omega (arith, has.1))
+without (y ∷ ys) x (zero, within, same) = (ys, omega arith, λ z other has. rest_of z other has)
+  where
+    rest_of : (z : ℕ) → z ≢ x → Contains (y ∷ ys) z → Contains ys z
+    rest_of z other (zero, inside, is) = absurd (other (sym is ∙ same))
+    rest_of z other (suc k, inside, is) = (k, omega arith, is)
+without (y ∷ ys) x (suc k, within, same) =
+    let there = without ys x (k, omega arith, same) in
+    (y ∷ there.0, omega (arith, there.1), λ z other has. rest_of there.0 there.2 z other has)
+  where
+    rest_of : (zs : List ℕ) → ((z : ℕ) → z ≢ x → Contains ys z → Contains zs z) → (z : ℕ) → z ≢ x → Contains (y ∷ ys) z → Contains (y ∷ zs) z
+    rest_of zs rest z other (zero, inside, is) = (zero, omega arith, is)
+    rest_of zs rest z other (suc j, inside, is) = one_more y zs z (rest z other (j, omega arith, is))
 
-latest_below : (Above : Relation) (n m one other : ℕ) → IsLatestAbove Above n m one → IsLatestAbove Above n m other → one ≤ other
-latest_below Above n m one other p q = elim (cases_lt 0 one) [
-  | inl some ↦ let there = p.some some in q.latest one (omega arith) there.0 there.1
-  | inr none ↦ omega arith
-]
+rising_few_by : (xs ys : List ℕ) → AllPairs (λ a b. a < b) xs → ((x : ℕ) → Contains xs x → Contains ys x) → length xs ≤ length ys
+rising_few_by [] ys rises to = omega arith
+rising_few_by (x ∷ xs) ys rises to =
+    let there = without ys x (to x (zero, omega arith, refl)) in
+    let fewer : length xs ≤ length there.0 = rising_few_by xs there.0 (λ i j d less within. rises (suc i) (suc j) d (omega arith) (omega arith))
+    (λ z has. let later : x < z = first_least x xs z rises has in there.2 z (λ same. omega arith) (to z (one_more x xs z has))) in
+    omega (arith, there.1)
+
+pub rising_few : (xs ys : List ℕ) → IsStrictlyIncreasing xs → ((x : ℕ) → Contains xs x → Contains ys x) → length xs ≤ length ys
+rising_few xs ys rises to = rising_few_by xs ys (AllPairs-from_increasing xs rises) to
 
 -- the list of a message is one
-chosen_is_one : (Above : Relation) (n : ℕ) (one other : List ℕ) → IsChosen Above n one → IsChosen Above n other → one ≡ other
-chosen_is_one Above n one other p q =
-    let taken : p.taken ≡ q.taken = same_rising p.taken q.taken (AllPairs-from_increasing p.taken p.are_taken.rising) (AllPairs-from_increasing q.taken q.are_taken.rising)
-    (taken_too Above n p.taken q.taken p.are_taken q.are_taken) (taken_too Above n q.taken p.taken q.are_taken p.are_taken) in
-    let low = latest_below Above n (n + 1) p.above q.above p.is_latest q.is_latest in
-    let high = latest_below Above n (n + 1) q.above p.above q.is_latest p.is_latest in
-    let above : p.above ≡ q.above = omega (arith, low, high) in
-    p.chosen ∙ ap (λ t. chosen t p.above) taken ∙ ap (λ a. chosen q.taken a) above ∙ sym q.chosen
+chosen_is_one : (tree : List Node) (assigned : List Held) (n : ℕ) (one other : List ℕ) → IsChosen tree assigned n one → IsChosen tree assigned n other
+    → one ≡ other
+chosen_is_one tree assigned n one other p q =
+    same_rising one other (AllPairs-from_increasing one p.rising) (AllPairs-from_increasing other q.rising)
+    (λ i has. (q.each i).1 ((p.each i).0 has)) (λ i has. (p.each i).1 ((q.each i).0 has))
 
 -- and so are the lists of all
-pub lists_are_one : (tree : List Node) (assigned : List ℕ) (one other : List (List ℕ)) → AreChosen tree assigned one → AreChosen tree assigned other → one ≡ other
+pub lists_are_one : (tree : List Node) (assigned : List Held) (one other : List (List ℕ)) → AreChosen tree assigned one → AreChosen tree assigned other → one ≡ other
 lists_are_one tree assigned one other p q = ext_get_or [] one other (p.count ∙ sym q.count) (λ n within.
-    let same = chosen_is_one (IsAbove tree assigned) n (needs_of one (n + 1)) (needs_of other (n + 1)) (p.each n (omega (arith, p.count))) (q.each n (omega (arith, p.count))) in
+    let same = chosen_is_one tree assigned n (needs_of one (n + 1)) (needs_of other (n + 1)) (p.each n (omega (arith, p.count))) (q.each n (omega (arith, p.count))) in
     let at : n + 1 - 1 ≡ n = omega arith in
     subst (λ k. get_or one k [] ≡ get_or other k []) at same)

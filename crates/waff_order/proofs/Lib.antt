@@ -2,10 +2,15 @@ pub mod Parts
 pub mod NeedLemmas
 pub mod ChosenLemmas
 mod Taking
-mod Holding
+mod Places
+mod Agreeing
 mod Closure
-mod UpTo
-mod Reaching
+mod TakerLemmas
+mod Steps
+mod Holding
+mod LockHolding
+mod Counting
+mod Gathered
+mod OneMore
 mod LowestLemmas
 mod CarryLemmas
-mod OneMore

@@ -4,6 +4,7 @@ use Rattle.std.specs.Prelude.{option_and_then, slice_index_or}
 use Rattle.waff_model.specs.Tree.{Node, AtOrAbove, Excludes, parent_of}
 use Rattle.waff_model.specs.declared.tree.AffinityId.{AffinityId}
 use Rattle.waff_assign.specs.Order.{affinity_of}
+use Rattle.waff_assign.specs.Held.{Held}
 
 -- the lowest of a set of affinities: one of them that all of them are at or above
 pub record IsLowestOf (tree : List Node)
@@ -28,16 +29,16 @@ abbrev pub IsApart : List Node → Option AffinityId → AffinityId → Type 0
 IsApart tree noted b = (a : AffinityId) × (noted ≡ Some a) × (Excludes tree a.0 b.0 → ⊥)
 
 -- some message before message n has affinity a under one hierarchy and b under another
-pub record IsCoarseOf (assigned coarse_assigned : List ℕ) (n a : ℕ) (b : AffinityId) : Type 0 where
+pub record IsCoarseOf (assigned coarse_assigned : List Held) (n a : ℕ) (b : AffinityId) : Type 0 where
   pub message : ℕ
   pub from : 1 ≤ message
   pub before : message < n
-  pub affinity : affinity_of assigned message ≡ a
-  pub coarse : affinity_of coarse_assigned message ≡ b.0
+  pub affinity : affinity_of assigned message ≡ Some a
+  pub coarse : affinity_of coarse_assigned message ≡ Some b.0
 
 -- of the messages before message n of each affinity, the lowest of their affinities under the
 -- coarse tree is noted
-abbrev pub AreLowests : List ℕ → List Node → List ℕ → ℕ → List (Option AffinityId) → Type 0
+abbrev pub AreLowests : List Held → List Node → List Held → ℕ → List (Option AffinityId) → Type 0
 AreLowests assigned coarse_tree coarse_assigned n lowests =
     (a : ℕ) → IsLowestNoted coarse_tree (IsCoarseOf assigned coarse_assigned n a)
     (slice_index_or lowests a None)

@@ -6,6 +6,7 @@ use Rattle.std.specs.List.Sorted.{IsStrictlyIncreasing}
 use Rattle.waff_model.specs.Tree.{Node, Leads}
 use Rattle.waff_model.specs.declared.limits.TheConstants.{MAX_MESSAGES}
 use Rattle.waff_assign.specs.Order.{IsOrdered, Path}
+use Rattle.waff_assign.specs.Held.{Held}
 
 -- the needs of message n, from 1
 abbrev pub needs_of : List (List ℕ) → ℕ → List ℕ
@@ -25,9 +26,9 @@ pub record AreLists (needs : List (List ℕ)) : Type 0 where
   pub few : length needs ≤ MAX_MESSAGES
   pub short : sum_by length needs < 2 ^ 32
 
--- the needs of messages with these affinities: each need is an ordered pair, and each ordered pair
+-- the needs of messages that hold this: each need is an ordered pair, and each ordered pair
 -- is a path through needs, so that the paths through needs are exactly the path pairs
-pub record AreNeeds (tree : List Node) (assigned : List ℕ) (needs : List (List ℕ)) : Type 0 where
+pub record AreNeeds (tree : List Node) (assigned : List Held) (needs : List (List ℕ)) : Type 0 where
   pub count : length needs ≡ length assigned
   pub ordered : (i j : ℕ) → IsNeed needs i j → IsOrdered tree assigned i j
   pub paths : (i j : ℕ) → IsOrdered tree assigned i j → Path (IsNeed needs) i j

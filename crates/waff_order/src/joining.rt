@@ -6,20 +6,25 @@ ghost use Rattle.waff_model.specs.Preorder.{AreNested};
 ghost use Rattle.waff_model.specs.Tree.{Node};
 ghost use Rattle.waff_model.specs.declared.preorder.Span.{Span};
 ghost use Rattle.waff_model.specs.declared.limits.TheConstants.{MAX_MESSAGES};
+ghost use Rattle.waff_assign.specs.Order.{held_of};
 ghost use Rattle.waff_order.specs.Joined.{HaveJoined, IsJoined};
 ghost use Rattle.waff_order.specs.Needs.{needs_of, AreLists};
+ghost use Rattle.waff_assign.specs.Held.{Held, IsHeldWithin};
 
 use crate::frontier::Frontier;
 use crate::lists::{Lists, Needs};
+use crate::takers::Takers;
 use std::alloc::{AllocError, Global};
 use std::marker::Model;
-use waff_model::{AffinityId, Span, Tree};
+use waff_assign::{Assigned, is_root};
+use waff_model::{Span, Tree};
 
 /// The messages that have joined, numbered from 1 in the order of joining, with the needs of each
 /// among those that joined before it.
 #[derive(Drop)]
 pub struct Joining {
     frontier: Frontier,
+    takers: Takers,
     lists: Lists<u32>,
     /// The needs of the message that joins.
     needs: Vec<u32>,
@@ -34,6 +39,9 @@ impl Model for Joining {
       needs = j.lists;
       opened = j.frontier.opened;
       latest = j.frontier.latest;
+      locks = j.takers.locks.items;
+      chain = j.takers.chain.items;
+      touched = j.takers.touched.items;
     } };
 }
 
@@ -45,6 +53,7 @@ impl Joining {
     {
         Ok(Joining {
             frontier: Frontier::none(alloc, tree.len() as usize)?,
+            takers: Takers::none(alloc),
             lists: Lists::with_capacity(alloc, count)?,
             needs: Vec::new(alloc),
         })
@@ -65,22 +74,33 @@ impl Joining {
         self.lists.of(n)
     }
 
-    /// A message of this affinity joins, and its needs are listed. Where memory is refused the needs
-    /// of those that joined before stay.
-    pub fn join(&mut self, spans: &[Span], affinity: AffinityId) -> Result<(), AllocError>
-        requires affinity { affinity.0 < length spans.now }
+    /// Message `n` of these, from 1, joins, and its needs are listed. Where memory is refused the needs of those
+    /// that joined before stay.
+    pub fn join(&mut self, spans: &[Span], assigned: &Assigned, n: u32) -> Result<(), AllocError>
+        requires number { IsAmongFirst (length assigned.now) n }
+        requires known { IsHeldWithin (length spans.now) (held_of assigned.now n) }
         requires joined { IsJoined spans.now self.old }
         requires room { length self.old.needs < MAX_MESSAGES }
-        ensures joined { OnOk result ((tree : List Node) (assigned : List ℕ)
-            → HaveJoined tree spans.now assigned self.old
-            → HaveJoined tree spans.now (assigned ++ affinity.0 ∷ []) self.new) }
+        ensures joined { OnOk result ((tree : List Node) (held : List Held)
+            → HaveJoined tree spans.now held self.old
+            → HaveJoined tree spans.now (held ++ held_of assigned.now n ∷ []) self.new) }
         ensures listed { OnOk result
             ((list : List ℕ) × (self.new.needs ≡ self.old.needs ++ list ∷ [])) }
         ensures unchanged { OnErr result (self.new.needs ≡ self.old.needs) }
     {
         let m = self.lists.len() as u32 + 1;
-        let span = spans[affinity.0 as usize];
-        self.frontier.add(span, m, &mut self.needs)?;
+        let (affinity, uses) = (assigned.affinity(n), assigned.uses(n));
+        let is_root = is_root(affinity);
+        let root = self.frontier.latest.at(spans[0].first as usize);
+        self.needs.clear();
+        self.takers.list(uses, root, is_root, &mut self.needs)?;
+        self.frontier.add(spans, affinity, m, &mut self.needs)?;
+        self.takers.note(uses, m, root, is_root)?;
+        self.needs.sort_unstable();
+        self.needs.dedup();
+        if self.needs.len() > u32::MAX as usize - self.lists.total() {
+            return Err(AllocError);
+        }
         self.lists.push(self.needs.as_slice())?;
         Ok(())
     }
@@ -92,10 +112,12 @@ impl Joining {
     {
         let Joining {
             frontier,
+            takers,
             lists,
             needs,
         } = self;
         drop(frontier);
+        drop(takers);
         drop(needs);
         Needs::new(lists)
     }

@@ -2,11 +2,12 @@
 //!
 //! The needs of a message are earlier messages that exclude it, chosen so that the paths through
 //! them lead to all earlier messages that exclude it: whoever waits for the needs waits for all,
-//! and there are few of them. A message takes the messages that are open at or below its affinity,
-//! or, where there is none, the latest one above it.
+//! and there are few of them. At each place that it holds, its affinity or a lock, a message takes the
+//! messages that are open at or below that place, or, where there is none, the latest one above it.
 //! - `joining`: messages that join one after another, whose needs are found from the `frontier`, which
-//!   has tables by the spans of affinities in preorder; `predecessors`: the needs of a trace, whose
-//!   messages join in the order of their numbers; `lists`: lists of lists, as needs are.
+//!   has tables by the spans of affinities in preorder, and from the `takers` of each lock, in a table
+//!   and a chain; `predecessors`: the needs of a trace, whose messages join in the order of their
+//!   numbers; `lists`: lists of lists, as needs are.
 //! - `refinement`: whether all pairs that one hierarchy orders are ordered by another one, with
 //!   `lowests`.
 //!
@@ -26,6 +27,7 @@ mod lists;
 mod lowests;
 pub mod predecessors;
 mod refinement;
+mod takers;
 
 pub use joining::Joining;
 pub use lists::{Lists, Needs};

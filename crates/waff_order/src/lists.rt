@@ -47,6 +47,13 @@ impl<T> Lists<T> {
         self.ends.len()
     }
 
+    /// How many elements there are in all.
+    pub(crate) fn total(&self) -> usize
+        ensures { result ≡ sum_by length self.now }
+    {
+        self.all.len()
+    }
+
     /// The list of message `n`, from 1.
     pub fn of(&self, n: u32) -> &[T]
         requires number { IsAmongFirst (length self.now) n }

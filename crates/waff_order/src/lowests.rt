@@ -8,6 +8,8 @@ ghost use Rattle.std.specs.Prelude.{MatchOption, None, slice_index_or};
 ghost use Rattle.waff_assign.specs.Order.{Refines};
 ghost use Rattle.waff_model.specs.Tree.{IsTree, Node};
 ghost use Rattle.waff_order.specs.Lowests.{above_of, Agree, AreLowests, IsApart, IsLower};
+ghost use Rattle.waff_assign.specs.Held.{AreKnown};
+ghost use Rattle.waff_assign.specs.Held.{AreUnlocked, IsHeldWithin};
 
 use waff_assign::Assigned;
 use waff_model::{AffinityId, Tree};
@@ -21,8 +23,10 @@ pub(crate) fn note_messages(
     coarse_assigned: &Assigned,
 ) -> bool
     requires none { (a : ℕ) → slice_index_or lowests.old a None ≡ None }
-    requires known { All (λ a. a < length lowests.old) assigned.now }
-    requires coarse_known { All (λ a. a < length coarse_tree.now) coarse_assigned.now }
+    requires known { All (IsHeldWithin (length lowests.old)) assigned.now }
+    requires coarse_known { AreKnown coarse_tree.now coarse_assigned.now }
+    requires unlocked { AreUnlocked assigned.now }
+    requires coarse_unlocked { AreUnlocked coarse_assigned.now }
     requires lengths { length assigned.now ≡ length coarse_assigned.now }
     ensures lowests { IsTrue result → AreLowests assigned.now coarse_tree.now coarse_assigned.now
         (length assigned.now + 1) lowests.new }
@@ -30,8 +34,11 @@ pub(crate) fn note_messages(
         → Refines tree assigned.now coarse_tree.now coarse_assigned.now → IsTrue result }
 {
     for n in 1..assigned.len() + 1 {
-        let place = assigned.of(n).0 as usize;
-        let Some(low) = lower(coarse_tree, lowests[place], coarse_assigned.of(n)) else {
+        let (Some(place), Some(coarse)) = (assigned.affinity(n), coarse_assigned.affinity(n)) else {
+            return false;
+        };
+        let place = place.0 as usize;
+        let Some(low) = lower(coarse_tree, lowests[place], coarse) else {
             return false;
         };
         lowests[place] = Some(low);
@@ -45,7 +52,8 @@ pub(crate) fn agree(lowests: &mut [Option<AffinityId>], tree: &Tree, coarse_tree
     requires count { length lowests.old ≡ length tree.now }
     requires within { (a : ℕ)
         → IfSome (slice_index_or lowests.old a None) (λ low. low.0 < length coarse_tree.now) }
-    ensures { IsTrue result ↔ Agree tree.now coarse_tree.now lowests.old }
+    ensures agree { IsTrue result → Agree tree.now coarse_tree.now lowests.old }
+    ensures all { (IsTree coarse_tree.now → Agree tree.now coarse_tree.now lowests.old) → IsTrue result }
 {
     for a in 0..tree.len() as u16 {
         let Some(above) = noted_above(lowests, tree, AffinityId(a)) else {
@@ -80,7 +88,7 @@ fn noted_above(
 fn lower(tree: &Tree, noted: Option<AffinityId>, affinity: AffinityId) -> Option<AffinityId>
     requires noted { IfSome noted (λ a. a.0 < length tree.now) }
     requires affinity { affinity.0 < length tree.now }
-    ensures { MatchOption result (IsApart tree.now noted affinity)
+    ensures { MatchOption result (IsApart tree.now noted affinity × IsTree tree.now)
         (IsLower tree.now noted affinity) }
 {
     match noted {

@@ -1,8 +1,9 @@
--- Affinities that exclude each other.
-use Rattle.std.proofs.Common.{ℕ, List, inl, inr}
-use Rattle.waff_model.specs.Tree.{Node, Excludes}
+-- Messages that exclude each other.
+use Rattle.std.proofs.Common.{List}
+use Rattle.waff_model.specs.Tree.{Node}
+use Rattle.waff_assign.specs.Held.{ExcludeEachOther, Held}
+use Rattle.waff_assign.proofs.Holding.{exclude_sym}
 
 -- each of two excludes the other
-pub excludes_back : (tree : List Node) (a b : ℕ) → Excludes tree a b → Excludes tree b a
-excludes_back tree a b (inl above) = inr above
-excludes_back tree a b (inr below) = inl below
+pub excludes_back : (tree : List Node) (one other : Held) → ExcludeEachOther tree one other → ExcludeEachOther tree other one
+excludes_back tree one other excludes = exclude_sym tree one other excludes

@@ -6,8 +6,9 @@ use Rattle.waff_plan.specs.Work.{Work}
 use Rattle.waff_plan.specs.Timing.{work_of}
 use Rattle.waff_plan.specs.declared.timing.Timing.{Timing}
 use Rattle.waff_plan.specs.Obeys.{IsLinked, IsForward, AwaitsEarlier}
+use Rattle.waff_assign.specs.Held.{Held}
 
-pub IsOrdered_forward : (tree : List Node) (assigned : List ℕ) (work : Work) → length assigned ≡ work.count → AwaitsEarlier work
+pub IsOrdered_forward : (tree : List Node) (assigned : List Held) (work : Work) → length assigned ≡ work.count → AwaitsEarlier work
     → IsForward (IsOrdered tree assigned) work
 IsOrdered_forward tree assigned work same follows =
     let pair = λ (i m : ℕ) (linked : IsLinked (IsOrdered tree assigned) work i m).
@@ -25,6 +26,6 @@ IsOrdered_forward tree assigned work same follows =
     }
 
 -- so do those of timings
-pub timings_forward : (tree : List Node) (assigned : List ℕ) (timings : List Timing) → length assigned ≡ length timings
+pub timings_forward : (tree : List Node) (assigned : List Held) (timings : List Timing) → length assigned ≡ length timings
     → AwaitsEarlier (work_of timings) → IsForward (IsOrdered tree assigned) (work_of timings)
 timings_forward tree assigned timings same follows = IsOrdered_forward tree assigned (work_of timings) same follows

@@ -14,6 +14,7 @@ use Rattle.waff_plan.specs.Pending.{Issue, AreFirst}
 use Rattle.waff_plan.proofs.FollowLemmas.{none_awaited}
 use Rattle.waff_plan.proofs.IssueSteps.{AreOnce, AreTaken, ArePending, once_put, those}
 use Rattle.waff_model.specs.Tree.{Node}
+use Rattle.waff_assign.specs.Held.{Held}
 
 -- those of the first n messages that await none
 pub record AreFirstUpTo (work : Work) (n : ℕ) (first : List Issue) : Type 0 where
@@ -117,7 +118,7 @@ first_all work n first is are = record {
 }
 
 -- at first none is taken, and those that await none are pending
-pub taken_none : (tree : List Node) (assigned : List ℕ) (work : Work) (key : Key) (start : ℕ → ℕ) (links : List (Option ℕ)) → AreTaken tree assigned work key start [] links
+pub taken_none : (tree : List Node) (assigned : List Held) (work : Work) (key : Key) (start : ℕ → ℕ) (links : List (Option ℕ)) → AreTaken tree assigned work key start [] links
 taken_none tree assigned work key start links = record {
   number = λ m there. absurd (omega (arith, there.1));
   closed = λ i m awaited there. absurd (omega (arith, there.1));

@@ -4,8 +4,6 @@ use Rattle.std.proofs.lemmas.List.{get_or-set_same, get_or-set_other, length-set
 use Rattle.std.proofs.lemmas.List.Elements.{Contains-push_cases}
 use Rattle.waff_model.specs.Tree.{Node}
 use Rattle.waff_model.specs.declared.limits.TheConstants.{MAX_COST, MAX_MESSAGES, MAX_RELEASE, MAX_THINK, MAX_TICK}
-use Rattle.waff_model.specs.declared.preorder.Span.{Span}
-use Rattle.waff_assign.specs.Order.{affinity_of}
 use Rattle.waff_waits.specs.Times.{AreEach}
 use Rattle.waff_waits.specs.Waits.{IsFree, WhoWaits, waiting_for}
 use Rattle.waff_plan.specs.Awaiting.{AreAwaiting}
@@ -27,6 +25,7 @@ use Rattle.waff_plan.proofs.Holding.{issued_by}
 use Rattle.waff_plan.proofs.IssueFirst.{pending_first, taken_none}
 use Rattle.waff_plan.proofs.IssueSteps.{AreTaken, ArePending, apart_of, due_of, each_taken, order_finish, pending_from, taken_more, those, untaken, untaken_all, untaken_less, x_there}
 use Rattle.waff_plan.proofs.Tables.{table_again}
+use Rattle.waff_assign.specs.Held.{Held}
 
 -- no later than this is what is issued or has finished, after so many messages
 abbrev pub late : List ℕ → ℕ
@@ -45,13 +44,13 @@ small_work timings small = record {
   gap = λ i m number. gap_limit Every (timing_of timings m) i (small (m - 1) no_timing (omega (arith, number.from, number.to)));
 }
 
-module _ (tree : List Node) (spans : List Span) (assigned : List ℕ) (work : Work) (key : Key) where
+module _ (tree : List Node) (assigned : List Held) (work : Work) (key : Key) where
   pub record IsGoing (starts order : List ℕ) (links : List (Option ℕ)) (left : ℕ) (issues : List Issue) (waits : WhoWaits) (latests : LatestTable) : Type 0 where
     pub taken : AreTaken tree assigned work key (start_of starts) order links
     pub linked : length links ≡ work.count
     pub pending : ArePending work key (start_of starts) order issues
     pub awaiting : AreAwaiting work order waits
-    pub table : IsTable spans assigned (finish_of work (start_of starts)) order latests
+    pub table : IsTable (finish_of work (start_of starts)) order latests
     pub early : (i : ℕ) → Contains order i → finish_of work (start_of starts) i ≤ late order
     pub count : length starts ≡ work.count
     pub few : length order + left ≡ work.count
@@ -59,7 +58,7 @@ module _ (tree : List Node) (spans : List Span) (assigned : List ℕ) (work : Wo
 
   pub going_first : (starts : List ℕ) (links : List (Option ℕ)) (left : ℕ) (first : List Issue) (waits : WhoWaits) (table : LatestTable) → length starts ≡ work.count → length links ≡ work.count
       → left ≡ work.count → AreFirst work key first → AreAwaiting work [] waits
-      → IsTable spans assigned (finish_of work (start_of starts)) [] table → IsGoing starts [] links left first waits table
+      → IsTable (finish_of work (start_of starts)) [] table → IsGoing starts [] links left first waits table
   going_first starts links left first waits table count linked all are awaiting noted = record {
     taken = taken_none tree assigned work key (start_of starts) links;
     linked = linked;
@@ -107,9 +106,9 @@ module _ (tree : List Node) (spans : List Span) (assigned : List ℕ) (work : Wo
         issued_by (finish_of work start) (work.floor m) (late order + MAX_THINK) (work.awaits m) (omega (arith, small.floor m m_number))
         (λ i awaited. omega (arith, going.early i ((due x there).1 i awaited), small.gap i m m_number))
 
-    module _ (s : ℕ) (latest : Option Latest) (found : IsLatestExcluding tree assigned (finish_of work start) order (affinity_of assigned m) latest)
+    module _ (s : ℕ) (latest : Option Latest) (found : IsLatestExcluding tree assigned (finish_of work start) order m latest)
         (starts_at : MatchOption latest (s ≡ issue_of work start m) (λ l. s ≡ max (issue_of work start m) l.finish)) where
-      soon_from : (latest : Option Latest) → IsLatestExcluding tree assigned (finish_of work start) order (affinity_of assigned m) latest
+      soon_from : (latest : Option Latest) → IsLatestExcluding tree assigned (finish_of work start) order m latest
           → MatchOption latest (s ≡ issue_of work start m) (λ l. s ≡ max (issue_of work start m) l.finish) → s ≤ late order + MAX_THINK
       soon_from None none at = omega (arith, at, soon)
       soon_from (Some l) one at = omega (arith, at, soon, one.finish_is, going.early l.number one.number.one.0)
@@ -139,12 +138,12 @@ module _ (tree : List Node) (spans : List Span) (assigned : List ℕ) (work : Wo
       finish_same = order_finish tree assigned work key service start later order pending rest x follows links going.taken going.pending takes.rest same
 
       module _ (finish : ℕ) (finish_is : finish ≡ finish_of work later m) (table_more : LatestTable)
-          (notes : (finish_at : ℕ → ℕ) → IsTable spans assigned finish_at order table → finish_at m ≡ finish → IsTable spans assigned finish_at more table_more) where
+          (notes : (finish_at : ℕ → ℕ) → IsTable finish_at order table → finish_at m ≡ finish → IsTable finish_at more table_more) where
         finish_m : finish_of work later m ≡ finish
         finish_m = sym finish_is
 
-        noted : IsTable spans assigned (finish_of work later) more table_more
-        noted = notes (finish_of work later) (table_again spans assigned (finish_of work start) (finish_of work later) order table finish_same going.table) finish_m
+        noted : IsTable (finish_of work later) more table_more
+        noted = notes (finish_of work later) (table_again (finish_of work start) (finish_of work later) order table finish_same going.table) finish_m
 
         longer : late more ≡ late order + MAX_COST + MAX_THINK
         longer = omega (arith, length_push order m)

@@ -10,6 +10,7 @@ use Rattle.waff_model.specs.declared.message.Version.TheVariants.{V3}
 use Rattle.waff_plan.proofs.NoClients.{issue_is_floor}
 use Rattle.waff_plan.proofs.Places.{keyed_not_itself, keyed_on, one_is_keyed_first}
 use Rattle.waff_plan.proofs.Orders.{follower_first, serves_forward, service_key}
+use Rattle.waff_assign.specs.Held.{Held}
 
 -- the order of issue is total
 pub issued_not_itself : (work : Work) (start : ℕ → ℕ) (i : ℕ) → IsIssuedBefore work start i i → ⊥
@@ -27,12 +28,12 @@ module _ (work : Work) (start : ℕ → ℕ) (issued : (m : ℕ) → IsNumber wo
   issue_rises = follower_first [] [] work start (issue_of work start) issued follows ((service_key V3 work follows).rises start)
 
   -- what is served in the order of issue goes forward in that order
-  pub IsServedBefore_forward : (tree : List Node) (assigned : List ℕ) → IsForward (IsServedBefore tree assigned work start) work
+  pub IsServedBefore_forward : (tree : List Node) (assigned : List Held) → IsForward (IsServedBefore tree assigned work start) work
   IsServedBefore_forward tree assigned =
       serves_forward tree assigned work start (issue_of work start) issued follows ((service_key V3 work follows).rises start)
 
 -- without clients, where releases do not fall, what is served in the order of issue is served in that of the trace
-pub issue_is_arrival : (tree : List Node) (assigned : List ℕ) (work : Work) (start : ℕ → ℕ) → IssueIsArrival tree assigned work start
+pub issue_is_arrival : (tree : List Node) (assigned : List Held) (work : Work) (start : ℕ → ℕ) → IssueIsArrival tree assigned work start
 issue_is_arrival tree assigned work start same none rise i j = (
   λ served. record {
     from = served.first.from;

@@ -9,6 +9,7 @@ use Rattle.waff_plan.specs.Unique.{AreSame}
 use Rattle.waff_plan.proofs.Holding.{floor-le-issue, held_until, holds-same}
 use Rattle.waff_plan.proofs.Chains.{least_is_earliest}
 use Rattle.waff_plan.proofs.Orders.{follower_first, served_linked, serves_forward}
+use Rattle.waff_assign.specs.Held.{Held}
 
 -- message i is issued before a message with this number that is issued at the tick t
 abbrev IsDue : (ℕ → ℕ) → ℕ → ℕ → ℕ → Type 0
@@ -31,7 +32,7 @@ AgreeBefore work key start other t k = (i : ℕ) → IsNumber work i → IsDue (
 turned : (work : Work) (key : Key) (start other : ℕ → ℕ) (t k : ℕ) → AgreeBefore work key start other t k → AgreeBefore work key other start t k
 turned work key start other t k agree i number due = sym (agree i number (elim due [ inl a ↦ inr a | inr b ↦ inl b ]))
 
-module _ (tree : List Node) (assigned : List ℕ) (work : Work) (key : Key) (follows : AwaitsEarlier work) (service : IsServiceKey work key) where
+module _ (tree : List Node) (assigned : List Held) (work : Work) (key : Key) (follows : AwaitsEarlier work) (service : IsServiceKey work key) where
   -- what is due in one of the plans, or is the next message there, is issued at one tick in both
   due_issue : (start other : ℕ → ℕ) → StartsIssued work start → (t k : ℕ) → AgreeBefore work key start other t k
       → (m : ℕ) → ((i : ℕ) → ComesBefore (key start) i m → IsDue (key start) t k i) → key start m ≡ key other m

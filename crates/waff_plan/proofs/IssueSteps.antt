@@ -11,7 +11,7 @@ use Rattle.std.proofs.lemmas.List.Sorted.{Contains-permutation, sum_by-IsPermuta
 use Rattle.std.proofs.lemmas.List.Sums.{sum_by-cons}
 use Rattle.std.proofs.lemmas.Map.Views.{Contains-from_any, list_any-from_Contains}
 use Rattle.waff_model.specs.Tree.{Node}
-use Rattle.waff_assign.specs.Order.{Relation, affinity_of}
+use Rattle.waff_assign.specs.Order.{Relation}
 use Rattle.waff_waits.specs.Times.{AreEach}
 use Rattle.waff_waits.proofs.Each.{contains_map, each_apart, each_moved, each_there, none_there}
 use Rattle.waff_plan.specs.Awaiting.{IsOpen}
@@ -33,9 +33,10 @@ use Rattle.waff_plan.proofs.Holding.{same_issue}
 use Rattle.waff_plan.proofs.Latests.{found_again, found_same}
 use Rattle.waff_plan.proofs.Orders.{serves_forward}
 use Rattle.waff_plan.proofs.Places.{keyed_not_itself, keyed_on, sum_by-range_with_len-lt, sum_of_ones}
+use Rattle.waff_assign.specs.Held.{Held}
 
 -- message i has a start, and is served before message m
-abbrev pub IsTakenBefore : List Node → List ℕ → Work → (ℕ → ℕ) → List ℕ → Relation
+abbrev pub IsTakenBefore : List Node → List Held → Work → (ℕ → ℕ) → List ℕ → Relation
 IsTakenBefore tree assigned work key order i m = Contains order i × Serves tree assigned work key i m
 
 -- a message with this issue starts at this tick, after the latest that is before it
@@ -43,14 +44,14 @@ abbrev pub StartsAfter : Option Latest → ℕ → ℕ → Type 0
 StartsAfter latest issue start = MatchOption latest (start ≡ issue) (λ l. start ≡ max issue l.finish)
 
 -- message m starts as soon as the latest of those that have a start and are served before it allows, and this is its link
-pub record IsAtOnce (tree : List Node) (assigned : List ℕ) (work : Work) (key : Key) (start : ℕ → ℕ) (order : List ℕ) (m : ℕ) (link : Option ℕ) : Type 0 where
+pub record IsAtOnce (tree : List Node) (assigned : List Held) (work : Work) (key : Key) (start : ℕ → ℕ) (order : List ℕ) (m : ℕ) (link : Option ℕ) : Type 0 where
   pub latest : Option Latest
   pub found : IsFound (λ i. IsTakenBefore tree assigned work (key start) order i m) (finish_of work start) latest
   pub starts : StartsAfter latest (issue_of work start m) (start m)
   pub link_is : link ≡ wait_of Release work start m latest
 
 -- the messages that have a start, with their links
-pub record AreTaken (tree : List Node) (assigned : List ℕ) (work : Work) (key : Key) (start : ℕ → ℕ) (order : List ℕ) (links : List (Option ℕ)) : Type 0 where
+pub record AreTaken (tree : List Node) (assigned : List Held) (work : Work) (key : Key) (start : ℕ → ℕ) (order : List ℕ) (links : List (Option ℕ)) : Type 0 where
   pub number : (m : ℕ) → Contains order m → IsNumber work m
   pub closed : (i m : ℕ) → IsAwaited (work.awaits m) i → Contains order m → Contains order i
   pub at_once : (m : ℕ) → Contains order m → IsAtOnce tree assigned work key start order m (get_or links (m - 1) None)
@@ -106,7 +107,7 @@ first_same : (key other : ℕ → ℕ) (i j : ℕ) → key i ≡ other i → key
 first_same key other i j same_i same_j (inl sooner) = inl (omega (arith, same_i, same_j, sooner))
 first_same key other i j same_i same_j (inr same) = inr (omega (arith, same_i, same_j, same.0), same.1)
 
-serves_same : (tree : List Node) (assigned : List ℕ) (work : Work) (key other : ℕ → ℕ) (i j : ℕ) → key i ≡ other i → key j ≡ other j
+serves_same : (tree : List Node) (assigned : List Held) (work : Work) (key other : ℕ → ℕ) (i j : ℕ) → key i ≡ other i → key j ≡ other j
     → Serves tree assigned work key i j → Serves tree assigned work other i j
 serves_same tree assigned work key other i j same_i same_j served = record {
   first = served.first;
@@ -141,7 +142,7 @@ held_same finish other latest (a ∷ rest) same =
     ap (λ held. of held (finish a.message)) more ∙ ap (of (held_by other latest rest)) (sym (same a.message (inl refl)))
 
 -- one of the pending messages is taken: what is known of it, and what of the others
-module _ (tree : List Node) (assigned : List ℕ) (work : Work) (key : Key) (service : IsServiceKey work key) (start later : ℕ → ℕ) (order : List ℕ) (pending rest : List Issue) (x : Issue)
+module _ (tree : List Node) (assigned : List Held) (work : Work) (key : Key) (service : IsServiceKey work key) (start later : ℕ → ℕ) (order : List ℕ) (pending rest : List Issue) (x : Issue)
     (follows : AwaitsEarlier work) (links : List (Option ℕ)) (taken : AreTaken tree assigned work key start order links) (are : ArePending work key start order pending)
     (taken_first : IsPermutation pending (x ∷ rest)) (same : (i : ℕ) → 1 ≤ i → i ≢ x.1 → later i ≡ start i) where
   abbrev m : ℕ
@@ -216,7 +217,7 @@ module _ (tree : List Node) (assigned : List ℕ) (work : Work) (key : Key) (ser
         (held_same (finish_of work start) (finish_of work later) latest (work.awaits j) (λ i awaited. order_finish i (after i awaited)));
   }
 
-  module _ (s : ℕ) (latest : Option Latest) (starts : later m ≡ s) (latest_is : IsLatestExcluding tree assigned (finish_of work start) order (affinity_of assigned m) latest)
+  module _ (s : ℕ) (latest : Option Latest) (starts : later m ≡ s) (latest_is : IsLatestExcluding tree assigned (finish_of work start) order m latest)
       (starts_at : MatchOption latest (s ≡ issue_of work start m) (λ l. s ≡ max (issue_of work start m) l.finish)) where
     m_number : IsNumber work m
     m_number = (due_of x x_there).0
@@ -341,7 +342,7 @@ all_taken work key start order follows are (suc n) m within number = elim (has_o
 ]
 
 -- where no message is pending, this is the least plan, and these are its links in an order that tells the same
-module _ (tree : List Node) (assigned : List ℕ) (work : Work) (key : Key) (service : IsServiceKey work key) (start : ℕ → ℕ) (order : List ℕ)
+module _ (tree : List Node) (assigned : List Held) (work : Work) (key : Key) (service : IsServiceKey work key) (start : ℕ → ℕ) (order : List ℕ)
     (follows : AwaitsEarlier work) (links : List (Option ℕ)) (taken : AreTaken tree assigned work key start order links) (are : ArePending work key start order []) where
   all : (m : ℕ) → IsNumber work m → Contains order m
   all m number = all_taken work key start order follows are m m (omega arith) number

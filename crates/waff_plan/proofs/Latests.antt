@@ -27,6 +27,23 @@ found_same P Q finish (Some latest) to from h = record {
   finish_is = h.finish_is;
 }
 
+-- the latest of some is the latest of those of them of which it is one
+pub found_narrowed : (P Q : ℕ → Type 0) (finish : ℕ → ℕ) (latest : Latest) → ((i : ℕ) → Q i → P i) → Q latest.number
+    → IsFound P finish (Some latest) → IsFound Q finish (Some latest)
+found_narrowed P Q finish latest into one h = record {
+  number = record {
+    one = one;
+    latest = λ i q. h.number.latest i (into i q);
+    lowest = λ i q same. h.number.lowest i (into i q) same;
+  };
+  finish_is = h.finish_is;
+}
+
+-- where none is noted none is found
+pub found_none : (P : ℕ → Type 0) (finish : ℕ → ℕ) (latest : Option Latest) → latest ≡ None → IsFound (λ i. Contains [] i × P i) finish latest
+found_none P finish latest none =
+    subst (λ x. IsFound (λ i. Contains [] i × P i) finish x) (sym none) (λ i h. absurd (omega (arith, h.0.1)))
+
 -- with the same finishes the latest is the same
 pub found_again : (P : ℕ → Type 0) (finish again : ℕ → ℕ) (latest : Option Latest) → ((i : ℕ) → P i → again i ≡ finish i)
     → IsFound P finish latest → IsFound P again latest

@@ -24,6 +24,8 @@ mod TurnLemmas
 pub mod Ticks
 pub mod Forward
 pub mod Latests
+mod PlaceTables
+mod LockTables
 pub mod Tables
 pub mod Linkings
 mod Followings
@@ -34,6 +36,8 @@ pub mod Ratios
 pub mod ApartLaws
 pub mod Uniqueness
 mod Shares
+pub mod LockUses
 pub mod LowerBounds
+pub mod LockNeedLemmas
 mod Peaks
 mod TreeStarts

@@ -1,19 +1,20 @@
--- No plan that obeys is shorter than its share of the work, than what one client needs, or than what
--- runs on one path of affinities.
-use Rattle.std.proofs.Common.{◌≡◌, ℕ, zero, suc, ◌+◌, ◌-◌, ◌*◌, ◌^◌, ◌<◌, ◌≤◌, inl, inr, true, Bool, cond, eqb, List, [], ◌∷◌, ◌++◌, All, map, length, get_or, set, sum_by, count_by, Option, Some, None, IfSome, arith, refl, sym, ◌∙◌, ap, subst}
-use Rattle.std.specs.List.{range_with_len}
-use Rattle.std.proofs.lemmas.Bool.{cases_Bool, cases_eq, cases_lt, cond-true, cond-false, eq-eqb, ne_eqb}
-use Rattle.std.proofs.lemmas.List.{get_or_past, get_or-set_other, get_or-set_same}
+-- No plan that obeys is shorter than its share of the work, than what messages need that await one another, than what runs on one path
+-- of affinities, or than what messages need of one lock.
+use Rattle.std.proofs.Common.{◌≡◌, ℕ, zero, suc, ◌+◌, ◌-◌, ◌*◌, ◌^◌, ◌||◌, not, ◌<◌, ◌≤◌, ◌⊎◌, inl, inr, true, false, Bool, cond, eqb, List, [], ◌∷◌, ◌++◌, All, map, length, get_or, set, sum_by, count_by, Option, Some, None, IfSome, arith, refl, sym, ◌∙◌, ap, subst}
+use Rattle.std.specs.List.{flat_map, list_any, range_with_len}
+use Rattle.std.proofs.lemmas.Bool.{cases_Bool, cases_eq, cases_lt, and_parts, cond-true, cond-false, eq-eqb, eqb-true, false_from_ne_true, false≢true, not_from_true, or_cases, or_left, or_right}
+use Rattle.std.proofs.lemmas.List.{get_or-map, get_or_past, get_or-set_other, get_or-set_same, length-map}
 use Rattle.std.proofs.lemmas.List.FromFn.{get_or-map-range_with_len, length-map-range_with_len, map-range_with_len_more}
 use Rattle.std.proofs.lemmas.List.Recursion.{max_least}
 use Rattle.std.proofs.lemmas.List.Sums.{sum_by-cons}
+use Rattle.std.proofs.lemmas.Option.{none-some, same_Some}
 use Rattle.waff_model.specs.Tree.{IsRooted, IsTree, Node, AtOrAbove, parent_of}
 use Rattle.waff_model.proofs.TreeLemmas.{above_child, above_parent, above_root, comparable, earlier, reflexive}
-use Rattle.waff_assign.specs.Order.{IsOrdered, affinity_of}
+use Rattle.waff_assign.specs.Order.{IsOrdered, affinity_of, held_of}
 use Rattle.waff_plan.specs.Apart.{AreApart}
 use Rattle.waff_plan.specs.Bound.{IsWorkers}
 use Rattle.waff_plan.specs.IssueLaws.{StartsIssued}
-use Rattle.waff_plan.specs.LowerBound.{NoneIsBelow, earliest_finish, cost_by, cost_in, finish_by, of_parent, own_cost, path_cost, share_in}
+use Rattle.waff_plan.specs.LowerBound.{NoneIsBelow, earliest_finish, cost_by, cost_in, finish_by, greatest_lock, keeps_lock, kept_cost, lock_cost, of_parent, option_is, own_cost, path_cost, share_in, shared_cost, shares_lock, uses_lock}
 use Rattle.waff_plan.specs.Obeys.{AwaitsEarlier}
 use Rattle.waff_plan.specs.Timing.{IsTiming, no_timing, timing_of, work_by}
 use Rattle.waff_plan.specs.declared.timing.Awaited.{Awaited}
@@ -23,12 +24,15 @@ use Rattle.waff_plan.specs.Workers.{IsWorkerPlan, running, runs_at}
 use Rattle.waff_plan.proofs.ApartLaws.{runs_from, runs_parts}
 use Rattle.waff_plan.proofs.FollowLemmas.{gap_limit}
 use Rattle.waff_plan.proofs.Holding.{floor-le-issue, issue_again, issue_sooner, issued_by}
+use Rattle.waff_plan.proofs.LockUses.{cases_option, excludes_keeper, is_no_option, is_option, keeper_excludes, keepers_exclude, use_of}
 use Rattle.waff_plan.proofs.Longest.{finish_of-le-length_of, length_of-le, sum_more}
 use Rattle.waff_plan.proofs.Shares.{share_is_within}
 use Rattle.waff_plan.proofs.Ticks.{sum_by-numbers-le, total_is_within_workers}
+use Rattle.waff_assign.specs.Held.{ExcludeEachOther, Held, UsesLock}
+use Rattle.waff_assign.specs.declared.held.LockUse.{LockUse}
 
 -- a bound on each bounds the greatest
-greatest_within : (f : ℕ → ℕ) (a n bound : ℕ) → ((m : ℕ) → a ≤ m → m < a + n → f m ≤ bound) → greatest (map f (range_with_len a n)) ≤ bound
+pub greatest_within : (f : ℕ → ℕ) (a n bound : ℕ) → ((m : ℕ) → a ≤ m → m < a + n → f m ≤ bound) → greatest (map f (range_with_len a n)) ≤ bound
 greatest_within f a n bound h =
     max_least greatest (λ x. x) refl (λ _ _. refl) (map f (range_with_len a n)) 0 bound
     (λ i below.
@@ -84,6 +88,18 @@ sum_none : (xs : List ℕ) → 0 ≡ sum_by (λ _. 0) xs
 sum_none [] = refl
 sum_none (x ∷ xs) = omega (arith, sum_none xs, sum_by-cons (λ _. 0) x xs)
 
+-- one term of a sum
+pub term_within : (f : ℕ → ℕ) (n r : ℕ) → 1 ≤ r → r ≤ n → f r ≤ sum_by f (range_with_len 1 n)
+term_within f zero r from to = absurd (omega (arith, from, to))
+term_within f (suc n) r from to =
+    let next : n + 1 ≡ suc n = omega arith in
+    let more : sum_by f (range_with_len 1 (suc n)) ≡ sum_by f (range_with_len 1 n) + f (suc n)
+    = subst (λ k. sum_by f (range_with_len 1 k) ≡ sum_by f (range_with_len 1 n) + f k) next (sum_more f n) in
+    elim (cases_eq r (suc n)) [
+      | inl same ↦ omega (arith, more, ap f same)
+      | inr other ↦ omega (arith, more, term_within f n r from (omega (arith, to, other)))
+    ]
+
 -- where at most one of the first n passes, at most one is counted
 none_counted : (p : ℕ → Bool) (n : ℕ) → ((i : ℕ) → 1 ≤ i → i ≤ n → p i ≡ true → ⊥) → count_by p (range_with_len 1 n) ≡ 0
 none_counted p zero none = refl
@@ -114,7 +130,14 @@ one_counted p (suc n) apart =
           omega (arith, old, here, more)
     ]
 
-module _ (tree : List Node) (assigned : List ℕ) (work : Work) where
+-- a cost in an affinity, or none
+pub cost_in_here : (assigned : List Held) (work : Work) (a m : ℕ) → affinity_of assigned m ≡ Some a → cost_in assigned work a m ≡ work.cost m
+cost_in_here assigned work a m same = cond-true (option_is a (affinity_of assigned m)) (work.cost m) 0 (is_option a (affinity_of assigned m) same)
+
+pub cost_in_other : (assigned : List Held) (work : Work) (a m : ℕ) → (affinity_of assigned m ≡ Some a → ⊥) → cost_in assigned work a m ≡ 0
+cost_in_other assigned work a m other = cond-false (option_is a (affinity_of assigned m)) (work.cost m) 0 (is_no_option a (affinity_of assigned m) other)
+
+module _ (tree : List Node) (assigned : List Held) (work : Work) where
   abbrev own_part : ℕ → ℕ → ℕ
   own_part a m = cost_in assigned work a m
 
@@ -123,14 +146,21 @@ module _ (tree : List Node) (assigned : List ℕ) (work : Work) where
   part zero a m = own_part a m
   part (suc n) a m = own_part a m + of_parent (λ p. part n p m) (parent_of tree a)
 
-  part_here : (a m : ℕ) → affinity_of assigned m ≡ a → own_part a m ≡ work.cost m
-  part_here a m same = cond-true (eqb (affinity_of assigned m) a) (work.cost m) 0 (eq-eqb (affinity_of assigned m) a same)
+  -- message m runs in an affinity at or above a
+  abbrev pub RunsOver : ℕ → ℕ → Type 0
+  RunsOver a m = (b : ℕ) × (affinity_of assigned m ≡ Some b) × AtOrAbove tree b a
 
-  part_other : (a m : ℕ) → (affinity_of assigned m ≡ a → ⊥) → own_part a m ≡ 0
-  part_other a m other = cond-false (eqb (affinity_of assigned m) a) (work.cost m) 0 (ne_eqb (affinity_of assigned m) a other)
+  part_here : (a m : ℕ) → affinity_of assigned m ≡ Some a → own_part a m ≡ work.cost m
+  part_here a m same = cost_in_here assigned work a m same
 
-  above_itself : (a m : ℕ) → affinity_of assigned m ≡ a → AtOrAbove tree (affinity_of assigned m) a
-  above_itself a m same = subst (λ x. AtOrAbove tree (affinity_of assigned m) x) same (reflexive tree (affinity_of assigned m))
+  part_other : (a m : ℕ) → (affinity_of assigned m ≡ Some a → ⊥) → own_part a m ≡ 0
+  part_other a m other = cost_in_other assigned work a m other
+
+  above_itself : (a m : ℕ) → affinity_of assigned m ≡ Some a → RunsOver a m
+  above_itself a m same = (a, same, reflexive tree a)
+
+  over_child : (a p m : ℕ) → parent_of tree a ≡ Some p → RunsOver p m → RunsOver a m
+  over_child a p m parent over = (over.0, over.1, above_child tree over.0 a p parent over.2)
 
   -- the costs in an affinity and above it, message by message
   parent_cost : (n : ℕ) (o : Option ℕ) → ((p : ℕ) → cost_by tree assigned work n p ≡ sum_by (λ m. part n p m) (numbers work))
@@ -146,21 +176,21 @@ module _ (tree : List Node) (assigned : List ℕ) (work : Work) where
       omega (arith, above, both)
 
   -- a message with a part runs in the affinity or above it
-  parent_above : (n a m : ℕ) (o : Option ℕ) → parent_of tree a ≡ o → ((p : ℕ) → 0 < part n p m → AtOrAbove tree (affinity_of assigned m) p)
-      → 0 < of_parent (λ p. part n p m) o → (p : ℕ) × (parent_of tree a ≡ Some p) × AtOrAbove tree (affinity_of assigned m) p
+  parent_above : (n a m : ℕ) (o : Option ℕ) → parent_of tree a ≡ o → ((p : ℕ) → 0 < part n p m → RunsOver p m)
+      → 0 < of_parent (λ p. part n p m) o → (p : ℕ) × (parent_of tree a ≡ Some p) × RunsOver p m
   parent_above n a m None is above some = absurd (omega (arith, some))
   parent_above n a m (Some p) is above some = (p, is, above p some)
 
-  part_above : (n a m : ℕ) → 0 < part n a m → AtOrAbove tree (affinity_of assigned m) a
-  part_above zero a m some = elim (cases_eq (affinity_of assigned m) a) [
+  part_above : (n a m : ℕ) → 0 < part n a m → RunsOver a m
+  part_above zero a m some = elim (cases_option a (affinity_of assigned m)) [
     | inl same ↦ above_itself a m same
     | inr other ↦ absurd (omega (arith, some, part_other a m other))
   ]
-  part_above (suc n) a m some = elim (cases_eq (affinity_of assigned m) a) [
+  part_above (suc n) a m some = elim (cases_option a (affinity_of assigned m)) [
     | inl same ↦ above_itself a m same
     | inr other ↦
         let found = parent_above n a m (parent_of tree a) refl (λ p. part_above n p m) (omega (arith, some, part_other a m other)) in
-        above_child tree (affinity_of assigned m) a found.0 found.1 found.2
+        over_child a found.0 m found.1 found.2
   ]
 
   -- and its part is its cost at most
@@ -169,33 +199,36 @@ module _ (tree : List Node) (assigned : List ℕ) (work : Work) where
   parent_part n m (Some p) below = below p
 
   part_within : IsTree tree → (n a m : ℕ) → part n a m ≤ work.cost m
-  part_within is zero a m = elim (cases_eq (affinity_of assigned m) a) [
+  part_within is zero a m = elim (cases_option a (affinity_of assigned m)) [
     | inl same ↦ omega (arith, part_here a m same)
     | inr other ↦ omega (arith, part_other a m other)
   ]
-  part_within is (suc n) a m = elim (cases_eq (affinity_of assigned m) a) [
+  part_within is (suc n) a m = elim (cases_option a (affinity_of assigned m)) [
     | inl same ↦ elim (cases_lt 0 (of_parent (λ p. part n p m) (parent_of tree a))) [
       | inl some ↦
           let found = parent_above n a m (parent_of tree a) refl (λ p. part_above n p m) some in
-          let low = earlier tree is.rooted (affinity_of assigned m) found.0 found.2 in
+          let over = found.2 in
+          let low = earlier tree is.rooted over.0 found.0 over.2 in
           let lower = is.rooted.earlier a found.0 found.1 in
-          absurd (omega (arith, low, lower, same))
+          absurd (omega (arith, low, lower, same_Some over.0 a (sym over.1 ∙ same)))
       | inr none ↦ omega (arith, none, part_here a m same)
     ]
     | inr other ↦ omega (arith, part_other a m other, parent_part n m (parent_of tree a) (λ p. part_within is n p m))
   ]
 
   -- by enough steps its part is its cost
-  parent_all : (n a m : ℕ) (o : Option ℕ) → parent_of tree a ≡ o → (affinity_of assigned m ≡ a → ⊥) → AtOrAbove tree (affinity_of assigned m) a
-      → ((p : ℕ) → parent_of tree a ≡ Some p → AtOrAbove tree (affinity_of assigned m) p → work.cost m ≤ part n p m) → work.cost m ≤ of_parent (λ p. part n p m) o
-  parent_all n a m None is other above all = absurd (other (above_root tree (affinity_of assigned m) a is above))
-  parent_all n a m (Some p) is other above all = all p is (above_parent tree (affinity_of assigned m) a p other is above)
+  parent_all : (n a m : ℕ) (o : Option ℕ) → parent_of tree a ≡ o → (affinity_of assigned m ≡ Some a → ⊥) → RunsOver a m
+      → ((p : ℕ) → parent_of tree a ≡ Some p → RunsOver p m → work.cost m ≤ part n p m) → work.cost m ≤ of_parent (λ p. part n p m) o
+  parent_all n a m None is other (b, runs, above) all = absurd (other (runs ∙ ap Some (above_root tree b a is above)))
+  parent_all n a m (Some p) is other (b, runs, above) all =
+      all p is (b, runs, above_parent tree b a p (λ same. other (runs ∙ ap Some same)) is above)
 
-  part_all : IsTree tree → (n a m : ℕ) → a ≤ n → AtOrAbove tree (affinity_of assigned m) a → work.cost m ≤ part n a m
-  part_all is zero a m few above =
-      let low = earlier tree is.rooted (affinity_of assigned m) a above in
-      omega (arith, part_here a m (omega (arith, low, few)))
-  part_all is (suc n) a m few above = elim (cases_eq (affinity_of assigned m) a) [
+  part_all : IsTree tree → (n a m : ℕ) → a ≤ n → RunsOver a m → work.cost m ≤ part n a m
+  part_all is zero a m few (b, runs, above) =
+      let low = earlier tree is.rooted b a above in
+      let same : b ≡ a = omega (arith, low, few) in
+      omega (arith, part_here a m (runs ∙ ap Some same))
+  part_all is (suc n) a m few above = elim (cases_option a (affinity_of assigned m)) [
     | inl same ↦ omega (arith, part_here a m same)
     | inr other ↦
         let high = parent_all n a m (parent_of tree a) refl other above
@@ -205,7 +238,7 @@ module _ (tree : List Node) (assigned : List ℕ) (work : Work) where
 
   -- what messages that run in an affinity or above it cost in all is on its path
   pub within_path : IsTree tree → (a : ℕ) (f : ℕ → ℕ) → ((m : ℕ) → IsNumber work m → f m ≤ work.cost m)
-      → ((m : ℕ) → IsNumber work m → 0 < f m → AtOrAbove tree (affinity_of assigned m) a) → sum_by f (numbers work) ≤ path_cost tree assigned work a
+      → ((m : ℕ) → IsNumber work m → 0 < f m → RunsOver a m) → sum_by f (numbers work) ≤ path_cost tree assigned work a
   within_path is a f within above =
       let each : (m : ℕ) → IsNumber work m → f m ≤ part a a m = λ m number. elim (cases_lt 0 (f m)) [
         | inl some ↦ omega (arith, within m number, part_all is a a m (omega arith) (above m number some))
@@ -226,13 +259,14 @@ module _ (tree : List Node) (assigned : List ℕ) (work : Work) where
       let two = runs_parts (path_work n a) other t j j_runs in
       let i_part = part_within is n a i in
       let j_part = part_within is n a j in
+      let i_over = part_above n a i (omega (arith, one.0, one.1)) in
+      let j_over = part_above n a j (omega (arith, two.0, two.1)) in
       apart i j (record {
         ordered = record {
           from = from;
           earlier = less;
           to = omega (arith, to, long);
-          excludes = comparable tree (affinity_of assigned i) (affinity_of assigned j) a
-              (part_above n a i (omega (arith, one.0, one.1))) (part_above n a j (omega (arith, two.0, two.1)));
+          excludes = inl (i_over.0, j_over.0, i_over.1, j_over.1, comparable tree i_over.0 j_over.0 a i_over.2 j_over.2);
         };
         together = (t, runs_from work other t i one.0 (omega (arith, one.1, i_part)), runs_from work other t j two.0 (omega (arith, two.1, j_part)));
       }))
@@ -256,13 +290,172 @@ module _ (tree : List Node) (assigned : List ℕ) (work : Work) where
       greatest_within (path_cost tree assigned work) 0 (length tree) (length_of work other)
       (λ a from below. path_below is long other apart a a)
 
-pub none_is_below : (workers : Option ℕ) (tree : List Node) (assigned : List ℕ) (work : Work) → NoneIsBelow workers tree assigned work
+-- messages each two of which exclude each other, as work of its own
+module _ (tree : List Node) (assigned : List Held) (work : Work) (long : length assigned ≡ work.count) (other : ℕ → ℕ)
+    (apart : AreApart (IsOrdered tree assigned) work other) where
+  module _ (p : ℕ → Bool) (exclude : (i j : ℕ) → p i ≡ true → p j ≡ true → i < j → ExcludeEachOther tree (held_of assigned i) (held_of assigned j)) where
+    abbrev some_cost : ℕ → ℕ
+    some_cost m = cond {A = ℕ} (p m) (work.cost m) 0
+
+    abbrev some_work : Work
+    some_work = record { count = work.count; cost = some_cost; floor = λ m. 0; awaits = λ m. [] }
+
+    some_within : (m : ℕ) → some_cost m ≤ work.cost m
+    some_within m = elim (cases_Bool (p m)) [
+      | inl is ↦ omega (arith, cond-true (p m) (work.cost m) 0 is)
+      | inr not ↦ omega (arith, cond-false (p m) (work.cost m) 0 not)
+    ]
+
+    some_is : (m : ℕ) → 0 < some_cost m → p m ≡ true
+    some_is m some = elim (cases_Bool (p m)) [
+      | inl is ↦ is
+      | inr not ↦ absurd (omega (arith, some, cond-false (p m) (work.cost m) 0 not))
+    ]
+
+    -- of them at most one runs at a tick
+    some_running : (t : ℕ) → running some_work other t ≤ 1
+    some_running t =
+        one_counted (runs_at some_work other t) work.count (λ i j from less to i_runs j_runs.
+        let one = runs_parts some_work other t i i_runs in
+        let two = runs_parts some_work other t j j_runs in
+        let i_part = some_within i in
+        let j_part = some_within j in
+        apart i j (record {
+          ordered = record {
+            from = from;
+            earlier = less;
+            to = omega (arith, to, long);
+            excludes = exclude i j (some_is i (omega (arith, one.0, one.1))) (some_is j (omega (arith, two.0, two.1))) less;
+          };
+          together = (t, runs_from work other t i one.0 (omega (arith, one.1, i_part)), runs_from work other t j two.0 (omega (arith, two.1, j_part)));
+        }))
+
+    -- so no plan is shorter than all of them
+    some_below : sum_by some_cost (numbers work) ≤ length_of work other
+    some_below =
+        let plan : IsWorkerPlan Unordered some_work 1 other = record {
+          obeys = record { issued = λ m number. omega arith; ordered = λ i j h. absurd h };
+          within = some_running;
+        } in
+        let total = total_is_within_workers Unordered some_work 1 other plan in
+        let shorter = length_of-le some_work other (length_of work other) (λ m number.
+        let known : IsNumber work m = record { from = number.from; to = number.to } in
+        omega (arith, some_within m, finish_of-le-length_of work other m known)) in
+        omega (arith, total, shorter)
+
+  -- what keeps a lock, and one message that shares it
+  module _ (lock : ℕ) where
+    abbrev keeps : ℕ → Bool
+    keeps m = keeps_lock lock (held_of assigned m)
+
+    kept_below : sum_by (kept_cost assigned work lock) (numbers work) ≤ length_of work other
+    kept_below = some_below keeps (λ i j one two less. keepers_exclude tree lock (held_of assigned i) (held_of assigned j) one two)
+
+    module _ (r : ℕ) (number : IsNumber work r) (shares : shares_lock lock (held_of assigned r) ≡ true) where
+      parts : (not (keeps r) ≡ true) × (uses_lock lock (held_of assigned r) ≡ true)
+      parts = and_parts (not (keeps r)) (uses_lock lock (held_of assigned r)) shares
+
+      uses : UsesLock (held_of assigned r) lock
+      uses = use_of lock (held_of assigned r) parts.1
+
+      abbrev with_one : ℕ → Bool
+      with_one m = keeps m || eqb m r
+
+      is_one : (m : ℕ) → with_one m ≡ true → (keeps m ≡ true) ⊎ (m ≡ r)
+      is_one m is = elim (or_cases (keeps m) (eqb m r) is) [
+        | inl one ↦ inl one
+        | inr same ↦ inr (eqb-true m r same)
+      ]
+
+      excluding : (i j : ℕ) → with_one i ≡ true → with_one j ≡ true → i < j → ExcludeEachOther tree (held_of assigned i) (held_of assigned j)
+      excluding i j one two less = elim (is_one i one) [
+        | inl i_keeps ↦ elim (is_one j two) [
+          | inl j_keeps ↦ keepers_exclude tree lock (held_of assigned i) (held_of assigned j) i_keeps j_keeps
+          | inr j_is ↦ keeper_excludes tree lock (held_of assigned i) (held_of assigned j) i_keeps (subst (λ m. UsesLock (held_of assigned m) lock) (sym j_is) uses)
+        ]
+        | inr i_is ↦ elim (is_one j two) [
+          | inl j_keeps ↦ excludes_keeper tree lock (held_of assigned i) (held_of assigned j) (subst (λ m. UsesLock (held_of assigned m) lock) (sym i_is) uses) j_keeps
+          | inr j_is ↦ absurd (omega (arith, less, i_is, j_is))
+        ]
+      ]
+
+      -- the costs with and without it
+      abbrev own : ℕ → ℕ
+      own m = cond {A = ℕ} (eqb m r) (work.cost m) 0
+
+      both : (m : ℕ) → kept_cost assigned work lock m + own m ≤ some_cost with_one excluding m
+      both m = elim (cases_Bool (keeps m)) [
+        | inl one ↦
+            let other_one : eqb m r ≡ false = false_from_ne_true (eqb m r) (λ same.
+            let kept : keeps r ≡ true = subst (λ k. keeps k ≡ true) (eqb-true m r same) one in
+            false≢true (sym (not_from_true (keeps r) kept) ∙ parts.0)) in
+            omega (
+              arith,
+              cond-true (keeps m) (work.cost m) 0 one,
+              cond-false (eqb m r) (work.cost m) 0 other_one,
+              cond-true (with_one m) (work.cost m) 0 (or_left (keeps m) (eqb m r) one),
+            )
+        | inr not ↦ elim (cases_Bool (eqb m r)) [
+          | inl same ↦ omega (
+            arith,
+            cond-false (keeps m) (work.cost m) 0 not,
+            cond-true (eqb m r) (work.cost m) 0 same,
+            cond-true (with_one m) (work.cost m) 0 (or_right (keeps m) (eqb m r) same),
+          )
+          | inr different ↦ omega (arith, cond-false (keeps m) (work.cost m) 0 not, cond-false (eqb m r) (work.cost m) 0 different)
+        ]
+      ]
+
+      own_at : work.cost r ≤ sum_by own (numbers work)
+      own_at = omega (arith, term_within own work.count r number.from number.to, cond-true (eqb r r) (work.cost r) 0 (eq-eqb r r refl))
+
+      pub with_one_below : sum_by (kept_cost assigned work lock) (numbers work) + work.cost r ≤ length_of work other
+      with_one_below =
+          omega (
+            arith,
+            sum_add (kept_cost assigned work lock) own (numbers work),
+            sum_by-numbers-le work (λ m. kept_cost assigned work lock m + own m) (some_cost with_one excluding) (λ m number. both m),
+            some_below with_one excluding,
+            own_at,
+          )
+
+    lock_within : lock_cost assigned work lock ≤ length_of work other
+    lock_within =
+        let kept = sum_by (kept_cost assigned work lock) (numbers work) in
+        let shared = greatest (map (shared_cost assigned work lock) (numbers work)) in
+        let below = kept_below in
+        let most = greatest_within (shared_cost assigned work lock) 1 work.count (length_of work other - kept)
+        (λ m from to.
+        elim (cases_Bool (shares_lock lock (held_of assigned m))) [
+          | inl shares ↦
+              let one = with_one_below m (record { from = from; to = omega (arith, to) }) shares in
+              omega (arith, one, cond-true (shares_lock lock (held_of assigned m)) (work.cost m) 0 shares)
+          | inr not ↦ omega (arith, cond-false (shares_lock lock (held_of assigned m)) (work.cost m) 0 not)
+        ]) in
+        elim (cases_Bool (list_any (uses_lock lock) assigned)) [
+          | inl used ↦ omega (arith, below, most, cond-true (list_any (uses_lock lock) assigned) (kept + shared) 0 used)
+          | inr unused ↦ omega (arith, cond-false (list_any (uses_lock lock) assigned) (kept + shared) 0 unused)
+        ]
+
+  locks_below : greatest_lock assigned work ≤ length_of work other
+  locks_below =
+      let uses = flat_map (λ (held : Held). held.uses) assigned in
+      max_least greatest (λ x. x) refl (λ _ _. refl) (map (λ (u : LockUse). lock_cost assigned work u.lock) uses) 0 (length_of work other)
+      (λ i below.
+      let short : i < length uses = subst (λ n. i < n) (length-map uses (λ (u : LockUse). lock_cost assigned work u.lock)) below in
+      let u = get_or uses i (record { lock = 0; alone = false }) in
+      let at : get_or (map (λ (v : LockUse). lock_cost assigned work v.lock) uses) i 0 ≡ lock_cost assigned work u.lock
+      = get_or-map (λ (v : LockUse). lock_cost assigned work v.lock) uses i (record { lock = 0; alone = false }) 0 short in
+      subst (λ x. x ≤ length_of work other) (sym at) (lock_within u.lock))
+
+pub none_is_below : (workers : Option ℕ) (tree : List Node) (assigned : List Held) (work : Work) → NoneIsBelow workers tree assigned work
 none_is_below workers tree assigned work is long known follows start obeys =
     omega (
       arith,
       share_below workers work start known obeys.issued obeys.within,
       clients_below work start follows obeys.issued,
       paths_below tree assigned work is long start obeys.apart,
+      locks_below tree assigned work long start obeys.apart,
     )
 
 -- what messages need that await each other, one after another
@@ -296,7 +489,7 @@ module _ (work : Work) (follows : AwaitsEarlier work) where
       (λ i awaited. let before = follows i (suc k) awaited in enough k i i (omega (arith, before.earlier)) (omega arith)))
 
 -- the costs in an affinity and above it, by those of its parent
-module _ (tree : List Node) (assigned : List ℕ) (work : Work) (rooted : IsRooted tree) where
+module _ (tree : List Node) (assigned : List Held) (work : Work) (rooted : IsRooted tree) where
   same_parent : (g h : ℕ → ℕ) (o : Option ℕ) → ((p : ℕ) → o ≡ Some p → g p ≡ h p) → of_parent g o ≡ of_parent h o
   same_parent g h None same = refl
   same_parent g h (Some p) same = same p refl
@@ -330,17 +523,10 @@ module _ (tree : List Node) (assigned : List ℕ) (work : Work) (rooted : IsRoot
       (λ p is. let lower = rooted.earlier (suc k) p is in steps_enough k p p (omega (arith, lower)) (omega arith)))
 
 -- neither is longer than all the work
-pub path_within : (tree : List Node) (assigned : List ℕ) (work : Work) → IsTree tree → (a : ℕ) → path_cost tree assigned work a ≤ total_of work
+pub path_within : (tree : List Node) (assigned : List Held) (work : Work) → IsTree tree → (a : ℕ) → path_cost tree assigned work a ≤ total_of work
 path_within tree assigned work is a =
     let parts = sum_by-numbers-le work (λ m. part tree assigned work a a m) work.cost (λ m number. part_within tree assigned work is a a m) in
     omega (arith, cost_is tree assigned work a a, parts)
-
--- a cost in an affinity, or none
-pub cost_in_here : (assigned : List ℕ) (work : Work) (a m : ℕ) → affinity_of assigned m ≡ a → cost_in assigned work a m ≡ work.cost m
-cost_in_here assigned work a m same = cond-true (eqb (affinity_of assigned m) a) (work.cost m) 0 (eq-eqb (affinity_of assigned m) a same)
-
-pub cost_in_other : (assigned : List ℕ) (work : Work) (a m : ℕ) → (affinity_of assigned m ≡ a → ⊥) → cost_in assigned work a m ≡ 0
-cost_in_other assigned work a m other = cond-false (eqb (affinity_of assigned m) a) (work.cost m) 0 (ne_eqb (affinity_of assigned m) a other)
 
 -- work within limits: floors, gaps and costs
 abbrev pub AreLimits : Work → Type 0
@@ -371,27 +557,37 @@ pub rest_fewer : (g : ℕ → ℕ) (costs : List ℕ) (a cost n : ℕ) → ((p :
 rest_fewer g costs a cost n rest p from to =
     get_or-set_other costs a p cost 0 (λ same. omega (arith, same, from)) ∙ rest p (omega (arith, from)) to
 
+-- a sum up to a message
+sum_to_this : (f : ℕ → ℕ) (n : ℕ) → 1 ≤ n → sum_by f (range_with_len 1 (n + 1 - 1)) ≡ sum_by f (range_with_len 1 (n - 1)) + f n
+sum_to_this f n from =
+    let this : n - 1 + 1 ≡ n = omega (arith, from) in
+    let next : n - 1 + 1 ≡ n + 1 - 1 = omega (arith, from) in
+    ap (λ k. sum_by f (range_with_len 1 k)) (sym next) ∙ sum_more f (n - 1) ∙ ap (λ x. sum_by f (range_with_len 1 (n - 1)) + f x) this
+
 -- the cost of one more message
-pub own_more : (assigned : List ℕ) (work : Work) (n a now : ℕ) (costs : List ℕ) → 1 ≤ n → affinity_of assigned n ≡ a → a < length costs
+pub own_more : (assigned : List Held) (work : Work) (n a now : ℕ) (costs : List ℕ) → 1 ≤ n → affinity_of assigned n ≡ Some a → a < length costs
     → ((b : ℕ) → b < length costs → get_or costs b 0 ≡ sum_by (cost_in assigned work b) (range_with_len 1 (n - 1)))
     → now ≡ get_or costs a 0 + work.cost n
     → (b : ℕ) → b < length costs → get_or (set costs a now) b 0 ≡ sum_by (cost_in assigned work b) (range_with_len 1 (n + 1 - 1))
 own_more assigned work n a now costs from here within so_far is b there =
-    let this : n - 1 + 1 ≡ n = omega (arith, from) in
-    let next : n - 1 + 1 ≡ n + 1 - 1 = omega (arith, from) in
-    let more = sum_more (cost_in assigned work b) (n - 1) in
-    let last : cost_in assigned work b (n - 1 + 1) ≡ cost_in assigned work b n = ap (cost_in assigned work b) this in
-    let whole : sum_by (cost_in assigned work b) (range_with_len 1 (n + 1 - 1)) ≡ sum_by (cost_in assigned work b) (range_with_len 1 (n - 1)) + cost_in assigned work b n
-    = ap (λ k. sum_by (cost_in assigned work b) (range_with_len 1 k)) (sym next) ∙ more ∙ ap (λ x. sum_by (cost_in assigned work b) (range_with_len 1 (n - 1)) + x) last in
+    let whole = sum_to_this (cost_in assigned work b) n from in
     elim (cases_eq b a) [
       | inl same ↦
           let put : get_or (set costs a now) b 0 ≡ now = ap (λ x. get_or (set costs a now) x 0) same ∙ get_or-set_same costs a now 0 within in
           let old : get_or costs a 0 ≡ sum_by (cost_in assigned work b) (range_with_len 1 (n - 1)) = ap (λ x. get_or costs x 0) (sym same) ∙ so_far b there in
-          omega (arith, put, is, old, whole, cost_in_here assigned work b n (here ∙ sym same))
+          omega (arith, put, is, old, whole, cost_in_here assigned work b n (here ∙ ap Some (sym same)))
       | inr other ↦
           let kept : get_or (set costs a now) b 0 ≡ get_or costs b 0 = get_or-set_other costs a b now 0 other in
-          omega (arith, kept, so_far b there, whole, cost_in_other assigned work b n (λ same. other (sym same ∙ here)))
+          omega (arith, kept, so_far b there, whole, cost_in_other assigned work b n (λ same. other (same_Some b a (sym same ∙ here))))
     ]
+
+-- a message of no affinity adds nothing
+pub own_no_more : (assigned : List Held) (work : Work) (n : ℕ) (costs : List ℕ) → 1 ≤ n → affinity_of assigned n ≡ None
+    → ((b : ℕ) → b < length costs → get_or costs b 0 ≡ sum_by (cost_in assigned work b) (range_with_len 1 (n - 1)))
+    → (b : ℕ) → b < length costs → get_or costs b 0 ≡ sum_by (cost_in assigned work b) (range_with_len 1 (n + 1 - 1))
+own_no_more assigned work n costs from none so_far b there =
+    let whole = sum_to_this (cost_in assigned work b) n from in
+    omega (arith, so_far b there, whole, cost_in_other assigned work b n (λ same. none-some b (sym none ∙ same)))
 
 -- and is small
 pub small_more : (costs : List ℕ) (n a now cost : ℕ) → 1 ≤ n → a < length costs → ((b : ℕ) → b < length costs → get_or costs b 0 ≤ 2 ^ 32 * (n - 1))

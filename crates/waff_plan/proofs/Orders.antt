@@ -11,6 +11,7 @@ use Rattle.waff_plan.specs.Serving.{served_before}
 use Rattle.waff_plan.specs.Work.{Work, IsAwaited, IsNumber, issue_of}
 use Rattle.waff_plan.proofs.Holding.{awaited-le-issue, same_issue}
 use Rattle.waff_plan.proofs.Places.{earlier_place, place_from, place_of, place_to}
+use Rattle.waff_assign.specs.Held.{Held}
 
 -- the key of versions 1 and 2 is a service key, and so is the issue
 key_rises : (version : Version) (work : Work) → AwaitsEarlier work → (start : ℕ → ℕ) (i m : ℕ) → IsAwaited (work.awaits m) i
@@ -41,7 +42,7 @@ pub service_key : (version : Version) (work : Work) → AwaitsEarlier work → I
 service_key version work follows = record { kept = key_kept version work; rises = key_rises version work follows }
 
 -- what comes first by a key goes forward, where a message comes before those that await it
-module _ (tree : List Node) (assigned : List ℕ) (work : Work) (count : ℕ) (same : count ≡ work.count) (first : Relation) (key : ℕ → ℕ)
+module _ (tree : List Node) (assigned : List Held) (work : Work) (count : ℕ) (same : count ≡ work.count) (first : Relation) (key : ℕ → ℕ)
     (to : (i j : ℕ) → first i j → ComesBefore key i j) (follows : AwaitsEarlier work)
     (rises : (i m : ℕ) → IsAwaited (work.awaits m) i → ComesBefore key i m) where
   pub linked_first : (i m : ℕ) → IsLinked (Precedes count first tree assigned) work i m → ComesBefore key i m
@@ -68,7 +69,7 @@ module _ (tree : List Node) (assigned : List ℕ) (work : Work) (count : ℕ) (s
       }
 
 -- what is served by a service key goes forward
-module _ (tree : List Node) (assigned : List ℕ) (work : Work) (start key : ℕ → ℕ) (issued : (m : ℕ) → IsNumber work m → issue_of work start m ≤ start m)
+module _ (tree : List Node) (assigned : List Held) (work : Work) (start key : ℕ → ℕ) (issued : (m : ℕ) → IsNumber work m → issue_of work start m ≤ start m)
     (follows : AwaitsEarlier work)
     (rises : (i m : ℕ) → IsAwaited (work.awaits m) i → issue_of work start i ≤ start i → ComesBefore key i m) where
   pub follower_first : (i m : ℕ) → IsAwaited (work.awaits m) i → ComesBefore key i m
@@ -83,7 +84,7 @@ module _ (tree : List Node) (assigned : List ℕ) (work : Work) (start key : ℕ
   serves_forward = precedes_forward tree assigned work work.count refl (ComesBefore key) key (λ i j h. h) follows follower_first
 
 -- by the key of versions 1 and 2 what comes first in the trace is served first
-module _ (tree : List Node) (assigned : List ℕ) (work : Work) (same : length assigned ≡ work.count) where
+module _ (tree : List Node) (assigned : List Held) (work : Work) (same : length assigned ≡ work.count) where
   ordered_by_zero : (i j : ℕ) → Serves tree assigned work (λ m. 0) i j ↔ IsOrdered tree assigned i j
   ordered_by_zero i j = (
     λ served. record {

@@ -2,8 +2,9 @@
 use Rattle.std.proofs.Common.{◌≡◌, ℕ, ◌+◌, ◌-◌, ◌<◌, ◌≤◌, ◌⊎◌, inl, inr, List, length, Contains, Option, Some, None, IfSome, arith, sym, ◌∙◌, ap, subst}
 use Rattle.std.proofs.lemmas.Bool.{cases_lt, cases_order}
 use Rattle.std.proofs.lemmas.List.FromFn.{get_or-map-range_with_len, length-map-range_with_len}
-use Rattle.waff_model.specs.Tree.{Node, Excludes}
-use Rattle.waff_assign.specs.Order.{affinity_of, IsOrdered}
+use Rattle.waff_model.specs.Tree.{Node}
+use Rattle.waff_assign.specs.Held.{ExcludeEachOther, Held}
+use Rattle.waff_assign.specs.Order.{held_of, IsOrdered}
 use Rattle.waff_plan.specs.Apart.{AreApart}
 use Rattle.waff_plan.specs.ByStart.{AreByStart, AreMessages, started_at, started_of, walk_of}
 use Rattle.waff_plan.specs.Keeps.{IsPair, KeepsPairs}
@@ -19,7 +20,7 @@ use Rattle.waff_plan.proofs.Noted.{AreNoted}
 use Rattle.waff_plan.proofs.StartOrder.{apart_finish_among}
 use Rattle.waff_plan.proofs.StartedLinks.{place_of_number, starts_sooner}
 
-module _ (tree : List Node) (assigned : List ℕ) (work : Work) (start : ℕ → ℕ) (sequence : List Started) (pairs : Pairs) where
+module _ (tree : List Node) (assigned : List Held) (work : Work) (start : ℕ → ℕ) (sequence : List Started) (pairs : Pairs) where
   -- with message i a pair may begin
   abbrev pub Begins : ℕ → Type 0
   Begins i = (pairs.from ≤ i) × (i ≤ pairs.to)
@@ -29,7 +30,7 @@ module _ (tree : List Node) (assigned : List ℕ) (work : Work) (start : ℕ →
   KeepsTo place = (p q : ℕ) → IsPair tree assigned sequence pairs p q → q < place → finish_of work start (started_at sequence p).number ≤ start (started_at sequence q).number
 
   module _ (place m : ℕ) (noted : List ℕ) (latest : Option Latest) (is : (started_at sequence place).number ≡ m) (are : AreNoted sequence Begins place noted)
-      (found : m ≤ pairs.last → IsLatestExcluding tree assigned (finish_of work start) noted (affinity_of assigned m) latest) where
+      (found : m ≤ pairs.last → IsLatestExcluding tree assigned (finish_of work start) noted m latest) where
     -- where the pairs are kept, the latest of the noted messages has finished
     pub latest_finished : (pairs.last < m → latest ≡ None) → place < length sequence → KeepsPairs tree assigned work start sequence pairs → IfSome latest (λ l. l.finish ≤ start m)
     latest_finished none within kept = elim (cases_lt pairs.last m) [
@@ -37,7 +38,7 @@ module _ (tree : List Node) (assigned : List ℕ) (work : Work) (start : ℕ →
       | inr upto ↦ finished latest (found upto) upto
     ]
       where
-        finished : (x : Option Latest) → IsLatestExcluding tree assigned (finish_of work start) noted (affinity_of assigned m) x → m ≤ pairs.last → IfSome x (λ l. l.finish ≤ start m)
+        finished : (x : Option Latest) → IsLatestExcluding tree assigned (finish_of work start) noted m x → m ≤ pairs.last → IfSome x (λ l. l.finish ≤ start m)
         finished None none upto = tt
         finished (Some l) latest upto =
             let at = are.each l.number latest.number.one.0 in
@@ -59,19 +60,19 @@ module _ (tree : List Node) (assigned : List ℕ) (work : Work) (start : ℕ →
           let here : q ≡ place = omega (arith, less, later) in
           let q_is : (started_at sequence q).number ≡ m = ap (λ k. (started_at sequence k).number) here ∙ is in
           let there = are.all p (omega (arith, pair.before, here)) (pair.from, pair.to) in
-          let excludes : Excludes tree (affinity_of assigned (started_at sequence p).number) (affinity_of assigned m)
-          = subst (λ k. Excludes tree (affinity_of assigned (started_at sequence p).number) (affinity_of assigned k)) q_is pair.excludes in
+          let excludes : ExcludeEachOther tree (held_of assigned (started_at sequence p).number) (held_of assigned m)
+          = subst (λ k. ExcludeEachOther tree (held_of assigned (started_at sequence p).number) (held_of assigned k)) q_is pair.excludes in
           omega (arith, ap start q_is, finished latest (found (omega (arith, q_is, pair.last))) done (started_at sequence p).number there excludes)
     ]
       where
-        finished : (x : Option Latest) → IsLatestExcluding tree assigned (finish_of work start) noted (affinity_of assigned m) x → IfSome x (λ l. l.finish ≤ start m)
-            → (i : ℕ) → Contains noted i → Excludes tree (affinity_of assigned i) (affinity_of assigned m) → finish_of work start i ≤ start m
+        finished : (x : Option Latest) → IsLatestExcluding tree assigned (finish_of work start) noted m x → IfSome x (λ l. l.finish ≤ start m)
+            → (i : ℕ) → Contains noted i → ExcludeEachOther tree (held_of assigned i) (held_of assigned m) → finish_of work start i ≤ start m
         finished None none done i there excludes = absurd (none i (there, excludes))
         finished (Some l) latest done i there excludes = omega (arith, done, latest.finish_is, latest.number.latest i (there, excludes))
 
   -- of two messages at places that are one of the pairs the later starts when the earlier has finished
   pub kept_at : KeepsPairs tree assigned work start sequence pairs → (i j p q : ℕ) → (started_at sequence p).number ≡ i → (started_at sequence q).number ≡ j
-      → p < q → q < length sequence → pairs.from ≤ i → i ≤ pairs.to → j ≤ pairs.last → Excludes tree (affinity_of assigned i) (affinity_of assigned j)
+      → p < q → q < length sequence → pairs.from ≤ i → i ≤ pairs.to → j ≤ pairs.last → ExcludeEachOther tree (held_of assigned i) (held_of assigned j)
       → finish_of work start i ≤ start j
   kept_at kept i j p q p_is q_is before within from to last excludes =
       let done = kept p q (record {
@@ -101,7 +102,7 @@ numbered_messages count = record {
 }
 
 -- by number the pairs of the first messages with all later ones are kept where the order is
-module _ (tree : List Node) (assigned : List ℕ) (work : Work) (start : ℕ → ℕ) (count : ℕ) (same : length assigned ≡ work.count) where
+module _ (tree : List Node) (assigned : List Held) (work : Work) (start : ℕ → ℕ) (count : ℕ) (same : length assigned ≡ work.count) where
   abbrev first_pairs : Pairs
   first_pairs = record { from = 1; to = count; last = work.count }
 
@@ -136,7 +137,7 @@ pub started_messages : (work : Work) (start : ℕ → ℕ) (started : List Start
 started_messages work start started are = record { long = are.long; number = λ p less. number_here work start started are p less }
 
 -- by their starts those and the pairs of the others with the first are kept where no two run at a common tick
-module _ (tree : List Node) (assigned : List ℕ) (work : Work) (start : ℕ → ℕ) (count : ℕ) (same : length assigned ≡ work.count) (runs : EachRuns work)
+module _ (tree : List Node) (assigned : List Held) (work : Work) (start : ℕ → ℕ) (count : ℕ) (same : length assigned ≡ work.count) (runs : EachRuns work)
     (started : List Started) (are : AreByStart work start started) where
   pub pairs_apart : (pairs : Pairs) → ((i j : ℕ) → i ≤ pairs.to → j ≤ pairs.last → (i ≤ count) ⊎ (j ≤ count))
       → AreApart (IsAmong count (IsOrdered tree assigned)) work start → KeepsPairs tree assigned work start started pairs
@@ -176,7 +177,7 @@ module _ (tree : List Node) (assigned : List ℕ) (work : Work) (start : ℕ →
             (kept_at tree assigned work start started pairs_of_first first i j one.0 two.0 one.2 two.2 sooner two.1 ordered.from pair.ordered.within to ordered.excludes)
             pair.together
         | inr (inr later) ↦
-            let excludes = excludes_back tree (affinity_of assigned i) (affinity_of assigned j) ordered.excludes in
+            let excludes = excludes_back tree (held_of assigned i) (held_of assigned j) ordered.excludes in
             apart_where_finished work start j i
             (elim (cases_lt count j) [
               | inl past ↦

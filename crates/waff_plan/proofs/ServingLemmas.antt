@@ -22,6 +22,7 @@ use Rattle.waff_plan.proofs.Orders.{service_key}
 use Rattle.waff_plan.proofs.Places.{earlier_place, place_from, place_of}
 use Rattle.waff_plan.proofs.StartOrder.{IsStartedBefore_forward, least_again, served_apart, served_starts, started_first}
 use Rattle.waff_plan.proofs.Uniqueness.{least_is_one}
+use Rattle.waff_assign.specs.Held.{Held}
 
 -- the messages of a trace run
 pub each_runs : (version : Version) (timings : List Timing) → AreTimings version timings → EachRuns (work_of timings)
@@ -40,7 +41,7 @@ place_or place None = 0
 place_or place (Some m) = place m
 
 -- there is one plan that is least in the order in which it serves messages itself
-pub least_served_is_one : (version : Version) (tree : List Node) (assigned : List ℕ) (work : Work) → AwaitsEarlier work → (start other : ℕ → ℕ)
+pub least_served_is_one : (version : Version) (tree : List Node) (assigned : List Held) (work : Work) → AwaitsEarlier work → (start other : ℕ → ℕ)
     → IsLeast (served_before version tree assigned work start) work start → IsLeast (served_before version tree assigned work other) work other
     → AreSame work start other
 least_served_is_one V1 tree assigned work follows start other one two = least_is_one (IsOrdered tree assigned) work start other one two
@@ -50,7 +51,7 @@ least_served_is_one V3 tree assigned work follows start other one two =
 least_served_is_one V4 tree assigned work follows start other one two =
     least_by_key_is_one tree assigned work (key_of V4 work) follows (service_key V4 work follows) start other one two
 
-module _ (tree : List Node) (assigned : List ℕ) (timings : List Timing) (start : ℕ → ℕ) (same : length timings ≡ length assigned) where
+module _ (tree : List Node) (assigned : List Held) (timings : List Timing) (start : ℕ → ℕ) (same : length timings ≡ length assigned) where
   -- the order that is served is that of chains
   pub served_to_started : (version : Version) → AreTimings version timings → Obeys (served_before version tree assigned (work_of timings) start) (work_of timings) start
       → (i j : ℕ) → served_before version tree assigned (work_of timings) start i j → started_before version tree assigned start i j

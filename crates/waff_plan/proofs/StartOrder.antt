@@ -1,8 +1,9 @@
 -- The order of starts: a message starts before those that await it, and what starts first goes forward in it.
 use Rattle.std.proofs.Common.{◌≡◌, ◌≢◌, ℕ, ◌<◌, ◌≤◌, ◌↔◌, ◌⊎◌, inl, inr, List, length, arith, ap}
 use Rattle.std.proofs.lemmas.Bool.{cases_lt, cases_order}
-use Rattle.waff_model.specs.Tree.{Node, Excludes}
-use Rattle.waff_assign.specs.Order.{IsOrdered, Relation, affinity_of}
+use Rattle.waff_model.specs.Tree.{Node}
+use Rattle.waff_assign.specs.Held.{ExcludeEachOther, Held}
+use Rattle.waff_assign.specs.Order.{IsOrdered, Relation, held_of}
 use Rattle.waff_plan.specs.Apart.{AreApart}
 use Rattle.waff_plan.specs.Issues.{IsServedBefore}
 use Rattle.waff_plan.specs.Obeys.{EachRuns, AwaitsEarlier, IsAmong, IsForward, IsLeast, IsLinked, Obeys, StartsIssued}
@@ -23,7 +24,7 @@ least_again before other work start to from least = record {
   least = λ plan obeys m number. least.least plan (record { issued = obeys.issued; ordered = λ i j pair. obeys.ordered i j (to i j pair) }) m number;
 }
 
-module _ (tree : List Node) (assigned : List ℕ) (work : Work) (same : length assigned ≡ work.count) (runs : EachRuns work) where
+module _ (tree : List Node) (assigned : List Held) (work : Work) (same : length assigned ≡ work.count) (runs : EachRuns work) where
   number_of : (m : ℕ) → IsAmongFirst (length assigned) m → IsNumber work m
   number_of m among = record { from = among.from; to = omega (arith, among.to, same) }
 
@@ -31,7 +32,7 @@ module _ (tree : List Node) (assigned : List ℕ) (work : Work) (same : length a
   -- other starts
   pub apart_finish_among : (start : ℕ → ℕ) (count : ℕ) → AreApart (IsAmong count (IsOrdered tree assigned)) work start → (i j : ℕ) → i ≢ j
       → IsAmongFirst (length assigned) i → IsAmongFirst (length assigned) j → (i ≤ count) ⊎ (j ≤ count)
-      → Excludes tree (affinity_of assigned i) (affinity_of assigned j) → start i ≤ start j → finish_of work start i ≤ start j
+      → ExcludeEachOther tree (held_of assigned i) (held_of assigned j) → start i ≤ start j → finish_of work start i ≤ start j
   apart_finish_among start count apart i j other first second among excludes sooner = elim (cases_lt (start j) (finish_of work start i)) [
     | inl early ↦
         let together = together_where_running work start i j sooner early (omega (arith, runs j (number_of j second))) in
@@ -48,7 +49,7 @@ module _ (tree : List Node) (assigned : List ℕ) (work : Work) (same : length a
           | inr (inr more) ↦
               absurd (apart j i (record {
                 ordered = record {
-                  ordered = record { from = second.from; earlier = more; to = first.to; excludes = excludes_back tree (affinity_of assigned i) (affinity_of assigned j) excludes };
+                  ordered = record { from = second.from; earlier = more; to = first.to; excludes = excludes_back tree (held_of assigned i) (held_of assigned j) excludes };
                   within = elim among [ inl one ↦ (omega (arith, one, more)) | inr also ↦ also ];
                 };
                 together = turned work start i j together;
@@ -58,7 +59,7 @@ module _ (tree : List Node) (assigned : List ℕ) (work : Work) (same : length a
   ]
 
   pub apart_finish : (start : ℕ → ℕ) → AreApart (IsOrdered tree assigned) work start → (i j : ℕ) → i ≢ j → IsAmongFirst (length assigned) i
-      → IsAmongFirst (length assigned) j → Excludes tree (affinity_of assigned i) (affinity_of assigned j) → start i ≤ start j → finish_of work start i ≤ start j
+      → IsAmongFirst (length assigned) j → ExcludeEachOther tree (held_of assigned i) (held_of assigned j) → start i ≤ start j → finish_of work start i ≤ start j
   apart_finish start apart i j other first second excludes sooner =
       apart_finish_among start (length assigned) (λ i j pair. apart i j (record { ordered = pair.ordered.ordered; together = pair.together })) i j other first second
       (inl first.to) excludes sooner
@@ -93,7 +94,7 @@ module _ (tree : List Node) (assigned : List ℕ) (work : Work) (same : length a
         | inr (inr more) ↦ elim (cases_lt (other i) (other j)) [
           | inl less ↦ less
           | inr late ↦
-              let excludes = excludes_back tree (affinity_of assigned i) (affinity_of assigned j) before.excludes in
+              let excludes = excludes_back tree (held_of assigned i) (held_of assigned j) before.excludes in
               let done = apart_finish other serves.other_obeys.apart j i (λ one. omega (arith, more, one)) before.second before.first excludes late in
               let first : other j < other i = omega (arith, done, runs j (number_of j before.second)) in
               let turned_first = (serves.same j i (record { from = before.second.from; earlier = more; to = before.first.to; excludes = excludes })).1 first in
@@ -117,7 +118,7 @@ module _ (tree : List Node) (assigned : List ℕ) (work : Work) (same : length a
               first = second;
               second = first;
               precedes = issued;
-              excludes = excludes_back tree (affinity_of assigned i) (affinity_of assigned j) ordered.excludes;
+              excludes = excludes_back tree (held_of assigned i) (held_of assigned j) ordered.excludes;
             })) (turned work start i j pair.together)
       ]
 
@@ -145,7 +146,7 @@ module _ (tree : List Node) (assigned : List ℕ) (work : Work) (same : length a
                   first = second;
                   second = first;
                   precedes = issued;
-                  excludes = excludes_back tree (affinity_of assigned i) (affinity_of assigned j) before.excludes;
+                  excludes = excludes_back tree (held_of assigned i) (held_of assigned j) before.excludes;
                 }) in
                 absurd (omega (arith, late, before.precedes, runs j second))
           ];

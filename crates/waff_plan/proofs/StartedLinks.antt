@@ -2,11 +2,12 @@
 use Rattle.std.proofs.Common.{◌≡◌, ◌≢◌, true, false, refl, ℕ, ◌+◌, ◌-◌, ◌<◌, ◌≤◌, List, length, get_or, set, Contains, Option, None, arith, sym, ◌∙◌, ap, subst, inl, inr}
 use Rattle.std.proofs.lemmas.Bool.{cases_lt, cases_eq, false≢true}
 use Rattle.std.proofs.lemmas.List.{get_or-set_other, get_or-set_same, get_or_default}
-use Rattle.waff_model.specs.Tree.{Node, Excludes}
+use Rattle.waff_model.specs.Tree.{Node}
 use Rattle.waff_model.specs.Versions.{has_clients}
 use Rattle.waff_model.specs.declared.message.Version.{Version}
 use Rattle.waff_model.specs.declared.message.Version.TheVariants.{V1, V2, V3, V4}
-use Rattle.waff_assign.specs.Order.{IsOrdered, Relation, affinity_of}
+use Rattle.waff_assign.specs.Held.{ExcludeEachOther, Held}
+use Rattle.waff_assign.specs.Order.{IsOrdered, Relation, held_of}
 use Rattle.waff_plan.specs.ByStart.{AreByStart, started_at, started_of}
 use Rattle.waff_plan.specs.Obeys.{EachRuns}
 use Rattle.waff_plan.specs.ServesAs.{ObeysApart}
@@ -22,14 +23,14 @@ abbrev pub AreFirstLinks : (ℕ → Option ℕ → Type 0) → List Started → 
 AreFirstLinks Is started links p = (q : ℕ) → q < p → Is (started_at started q).number (get_or links ((started_at started q).number - 1) None)
 
 -- messages by a key are in an order: of two that exclude each other the one with the lower key is before the other
-pub record Sorts (tree : List Node) (assigned : List ℕ) (work : Work) (key : ℕ → ℕ) (before : Relation) : Type 0 where
-  pub to : (i m : ℕ) → IsNumber work i → IsNumber work m → i ≢ m → Excludes tree (affinity_of assigned i) (affinity_of assigned m) → key i ≤ key m → before i m
+pub record Sorts (tree : List Node) (assigned : List Held) (work : Work) (key : ℕ → ℕ) (before : Relation) : Type 0 where
+  pub to : (i m : ℕ) → IsNumber work i → IsNumber work m → i ≢ m → ExcludeEachOther tree (held_of assigned i) (held_of assigned m) → key i ≤ key m → before i m
   pub number : (i m : ℕ) → before i m → IsNumber work i
-  pub excludes : (i m : ℕ) → before i m → Excludes tree (affinity_of assigned i) (affinity_of assigned m)
+  pub excludes : (i m : ℕ) → before i m → ExcludeEachOther tree (held_of assigned i) (held_of assigned m)
   pub sooner : (i m : ℕ) → before i m → key i < key m
 
 -- a plan's messages by the key of its version are in the order of its chains
-module _ (tree : List Node) (assigned : List ℕ) (work : Work) (same : length assigned ≡ work.count) where
+module _ (tree : List Node) (assigned : List Held) (work : Work) (same : length assigned ≡ work.count) where
   sorts_numbers : Sorts tree assigned work (λ m. m) (IsOrdered tree assigned)
   sorts_numbers = record {
     to = λ i m first second other excludes no_later. record { from = first.from; earlier = omega (arith, no_later, other); to = omega (arith, second.to, same); excludes = excludes };
@@ -93,22 +94,22 @@ module _ (work : Work) (start : ℕ → ℕ) (started : List Started) (are : Are
       let other = (are.only q nobody (omega (arith, less, within))).start_is in
       omega (arith, are.rising q p less within, one, other)
 
-  module _ (tree : List Node) (assigned : List ℕ) (before : Relation) (sorts : Sorts tree assigned work start before) (p : ℕ) (within : p < length started) (noted : List ℕ)
+  module _ (tree : List Node) (assigned : List Held) (before : Relation) (sorts : Sorts tree assigned work start before) (p : ℕ) (within : p < length started) (noted : List ℕ)
       (are_noted : AreNoted started (λ i. Unit {0}) p noted) where
     abbrev here : ℕ
     here = (started_at started p).number
 
     -- of the messages that exclude it those that stand before it are before it
-    pub noted_before : (i : ℕ) → Contains noted i × Excludes tree (affinity_of assigned i) (affinity_of assigned here) → before i here
+    pub noted_before : (i : ℕ) → Contains noted i × ExcludeEachOther tree (held_of assigned i) (held_of assigned here) → before i here
     noted_before i both =
         let at = are_noted.each i both.0 in
-        subst (λ k. Excludes tree (affinity_of assigned k) (affinity_of assigned here) → before k here) at.2
+        subst (λ k. ExcludeEachOther tree (held_of assigned k) (held_of assigned here) → before k here) at.2
         (λ excludes.
         sorts.to (started_at started at.0).number here (number_here work start started are at.0 (omega (arith, at.1, within))) (number_here work start started are p within)
         (are.once at.0 p at.1 within) excludes (starts_sooner p at.0 (omega (arith, at.1)) within))
         both.1
 
-    pub before_noted : (i : ℕ) → before i here → Contains noted i × Excludes tree (affinity_of assigned i) (affinity_of assigned here)
+    pub before_noted : (i : ℕ) → before i here → Contains noted i × ExcludeEachOther tree (held_of assigned i) (held_of assigned here)
     before_noted i pair =
         let place = place_of_number i (sorts.number i here pair) in
         elim (cases_lt place.0 p) [

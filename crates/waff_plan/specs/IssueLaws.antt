@@ -17,6 +17,7 @@ use Rattle.waff_plan.specs.Laws.{ChainsAreWithinLength, LeastIsShortest, Printed
 use Rattle.waff_plan.specs.Laws.{PrintedIsAsLong, TotalIsWithinWorkers, NoneIsShorter}
 use Rattle.waff_plan.specs.Bound.{BoundIsWithinTwice, BoundIsWithinRatio}
 use Rattle.waff_plan.specs.Unique.{AreSame, LeastIsOne, PrintedIsOne}
+use Rattle.waff_assign.specs.Held.{Held}
 
 -- the laws of plans hold of those that obey this order
 pub record IsLawful (before : Relation) (work : Work) : Type 0 where
@@ -77,20 +78,20 @@ IssueRises work start =
 
 -- the unlimited plan in the order of issue is that in which each message starts at the greatest of
 -- its issue and the finishes of the messages that exclude it and are issued before it
-abbrev pub LeastStartsAtOnce : List Node → List ℕ → Work → (ℕ → ℕ) → Type 0
+abbrev pub LeastStartsAtOnce : List Node → List Held → Work → (ℕ → ℕ) → Type 0
 LeastStartsAtOnce tree assigned work start =
     IsLeastByIssue tree assigned work start
     ↔ AllStartAtOnce (IsServedBefore tree assigned work start) work start
 
 -- there is one such plan
-abbrev pub LeastByIssueIsOne : List Node → List ℕ → Work → Type 0
+abbrev pub LeastByIssueIsOne : List Node → List Held → Work → Type 0
 LeastByIssueIsOne tree assigned work =
     (start other : ℕ → ℕ) → IsLeastByIssue tree assigned work start
     → IsLeastByIssue tree assigned work other → AreSame work start other
 
 -- where no message awaits another and releases do not fall, what is served in the order of issue is
 -- served in that of the trace
-abbrev pub IssueIsArrival : List Node → List ℕ → Work → (ℕ → ℕ) → Type 0
+abbrev pub IssueIsArrival : List Node → List Held → Work → (ℕ → ℕ) → Type 0
 IssueIsArrival tree assigned work start =
     length assigned ≡ work.count → AwaitsNone work
     → ((i j : ℕ) → i < j → work.floor i ≤ work.floor j)

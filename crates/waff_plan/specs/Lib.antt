@@ -23,6 +23,7 @@ pub mod Latest
 pub mod LatestLaws
 pub mod Found
 pub mod Table
+pub mod TableFit
 pub mod Links
 pub mod Waited
 pub mod Waits
@@ -34,5 +35,6 @@ pub mod IssueLaws
 pub mod Planned
 pub mod Instances
 pub mod LowerBound
+pub mod LockNeeds
 pub mod Peak
 pub mod TreeStarts

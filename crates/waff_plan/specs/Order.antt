@@ -2,11 +2,13 @@
 -- all have the same key, so that what comes first in the trace is served first; from the third on the key
 -- is the tick of the issue.
 use Rattle.std.specs.Prelude.{◌≡◌, ℕ, ◌<◌, ◌≤◌, ◌⊎◌, List}
-use Rattle.waff_model.specs.Tree.{Node, Excludes}
+use Rattle.waff_model.specs.Tree.{Node}
 use Rattle.waff_model.specs.declared.message.Version.{Version}
 use Rattle.waff_model.specs.declared.message.Version.TheVariants.{V1, V2, V3, V4}
-use Rattle.waff_assign.specs.Order.{Relation, affinity_of}
+use Rattle.waff_assign.specs.Order.{Relation}
 use Rattle.waff_plan.specs.Work.{Work, IsAmongFirst, IsAwaited, issue_of}
+use Rattle.waff_assign.specs.Held.{ExcludeEachOther, Held}
+use Rattle.waff_assign.specs.Order.{held_of}
 
 -- the key of a message in a plan with these starts
 abbrev pub Key : Type 0
@@ -16,13 +18,13 @@ Key = (ℕ → ℕ) → ℕ → ℕ
 abbrev pub ComesBefore : (ℕ → ℕ) → Relation
 ComesBefore key i j = (key i < key j) ⊎ ((key i ≡ key j) × (i < j))
 
--- of this many messages, message i is before message j, and their affinities exclude each other
-pub record Precedes (count : ℕ) (before : Relation) (tree : List Node) (assigned : List ℕ) (i j : ℕ)
+-- of this many messages, message i is before message j, and they exclude each other
+pub record Precedes (count : ℕ) (before : Relation) (tree : List Node) (assigned : List Held) (i j : ℕ)
     : Type 0 where
   pub first : IsAmongFirst count i
   pub second : IsAmongFirst count j
   pub precedes : before i j
-  pub excludes : Excludes tree (affinity_of assigned i) (affinity_of assigned j)
+  pub excludes : ExcludeEachOther tree (held_of assigned i) (held_of assigned j)
 
 -- the key by which the messages of a trace are served
 abbrev pub key_of : Version → Work → Key
@@ -32,7 +34,7 @@ key_of V3 work start m = issue_of work start m
 key_of V4 work start m = issue_of work start m
 
 -- what a plan serves first by a key
-abbrev pub Serves : List Node → List ℕ → Work → (ℕ → ℕ) → Relation
+abbrev pub Serves : List Node → List Held → Work → (ℕ → ℕ) → Relation
 Serves tree assigned work key = Precedes work.count (ComesBefore key) tree assigned
 
 -- a key by which messages can be served one after another: it is known of a message as soon as what

@@ -7,6 +7,7 @@ use Rattle.waff_plan.specs.Work.{Work, IsNumber}
 use Rattle.waff_plan.specs.Obeys.{IsLeast}
 use Rattle.waff_plan.specs.Serving.{served_before}
 use Rattle.waff_plan.specs.Chain.{IsPrinted}
+use Rattle.waff_assign.specs.Held.{Held}
 
 -- two maps from messages have the same number at each message of the work
 abbrev pub AreSame : Work → (ℕ → ℕ) → (ℕ → ℕ) → Type 0
@@ -19,7 +20,7 @@ LeastIsOne before work =
     → IsLeast before work other → AreSame work start other
 
 -- so do two plans each of which is least in the order in which it is to serve messages itself
-abbrev pub LeastServedIsOne : Version → List Node → List ℕ → Work → Type 0
+abbrev pub LeastServedIsOne : Version → List Node → List Held → Work → Type 0
 LeastServedIsOne version tree assigned work =
     (start other : ℕ → ℕ) → IsLeast (served_before version tree assigned work start) work start
     → IsLeast (served_before version tree assigned work other) work other

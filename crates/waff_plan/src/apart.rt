@@ -6,6 +6,7 @@ ghost use Rattle.waff_assign.specs.Order.{IsOrdered};
 ghost use Rattle.waff_plan.specs.Apart.{AreApart};
 ghost use Rattle.waff_plan.specs.Obeys.{IsAmong};
 ghost use Rattle.waff_plan.specs.Timetable.{work_in, starts_in};
+ghost use Rattle.waff_assign.specs.Held.{AreKnown};
 
 use crate::Plan;
 use crate::ordered::{Pairs, keeps};
@@ -15,8 +16,7 @@ use waff_assign::Assigned;
 use waff_model::Tree;
 
 /// Whether no message of the first `count` runs at a common tick with a later one that excludes it,
-/// whichever starts first. The messages are looked at by their starts, each by the span of its
-/// affinity: with those of the first that started before it, and then, where it is one of the first
+/// whichever starts first. The messages are looked at by their starts: with those of the first that started before it, and then, where it is one of the first
 /// itself, with the others that did.
 pub fn keeps_apart(
     alloc: Global,
@@ -26,7 +26,7 @@ pub fn keeps_apart(
     count: u32,
 ) -> Result<bool, AllocError>
     requires lengths { length plan.now.timings ≡ length assigned.now }
-    requires known { All (λ a. a < length tree.now) assigned.now }
+    requires known { AreKnown tree.now assigned.now }
     ensures { IfOk result (λ apart. IsTrue apart
         ↔ AreApart (IsAmong count (IsOrdered tree.now assigned.now))
         (work_in plan.now) (starts_in plan.now)) }

@@ -1,6 +1,6 @@
 //! What holds of plans in the order of issue, where messages await others, as those of a client the one before. Each
-//! law is a function that does nothing and whose contract is the law, for a tree of affinities and the
-//! affinities assigned to the messages.
+//! law is a function that does nothing and whose contract is the law, for a tree of affinities and what
+//! messages hold under it.
 
 ghost use Rattle.std.specs.Prelude.{◌≡◌, ℕ, ◌↔◌, ◌⊎◌, List, [], length, All};
 ghost use Rattle.waff_model.specs.declared.message.Message.{Message};
@@ -13,6 +13,7 @@ ghost use Rattle.waff_plan.specs.Issues.{IsServedBefore};
 ghost use Rattle.waff_plan.specs.IssueLaws.{AreOfNoClient, AreSameWork, all_by_list};
 ghost use Rattle.waff_plan.specs.IssueLaws.{IssueIsTotal, IssueRises, StartsIssued, IsLawful};
 ghost use Rattle.waff_plan.specs.IssueLaws.{LeastStartsAtOnce, LeastByIssueIsOne, IssueIsArrival};
+ghost use Rattle.waff_assign.specs.Held.{Held};
 
 /// By clients each message of a trace awaits the one before it of its client.
 pub fn traces_follow_clients()
@@ -72,7 +73,7 @@ pub fn issue_rises()
 
 /// Messages have places in the order of issue of a plan.
 pub fn served_pairs_are_forward()
-    ensures { (tree : List Node) (assigned : List ℕ) (work : Work) (start : ℕ → ℕ)
+    ensures { (tree : List Node) (assigned : List Held) (work : Work) (start : ℕ → ℕ)
         → AwaitsEarlier work → StartsIssued work start
         → IsForward (IsServedBefore tree assigned work start) work }
 {}
@@ -80,25 +81,25 @@ pub fn served_pairs_are_forward()
 /// The laws of plans hold in the order of issue of a plan: of its chains, and of all plans that serve
 /// messages that exclude each other in that order.
 pub fn issue_is_lawful()
-    ensures { (tree : List Node) (assigned : List ℕ) (work : Work) (start : ℕ → ℕ)
+    ensures { (tree : List Node) (assigned : List Held) (work : Work) (start : ℕ → ℕ)
         → AwaitsEarlier work → StartsIssued work start
         → IsLawful (IsServedBefore tree assigned work start) work }
 {}
 
 /// The unlimited plan in the order of issue, in other words.
 pub fn least_starts_at_once()
-    ensures { (tree : List Node) (assigned : List ℕ) (work : Work) (start : ℕ → ℕ)
+    ensures { (tree : List Node) (assigned : List Held) (work : Work) (start : ℕ → ℕ)
         → AwaitsEarlier work → LeastStartsAtOnce tree assigned work start }
 {}
 
 /// There is one unlimited plan in the order of issue.
 pub fn least_by_issue_is_one()
-    ensures { (tree : List Node) (assigned : List ℕ) (work : Work)
+    ensures { (tree : List Node) (assigned : List Held) (work : Work)
         → AwaitsEarlier work → LeastByIssueIsOne tree assigned work }
 {}
 
 /// Without clients and with releases that do not fall the order of issue is that of the trace.
 pub fn issue_is_arrival()
-    ensures { (tree : List Node) (assigned : List ℕ) (work : Work) (start : ℕ → ℕ)
+    ensures { (tree : List Node) (assigned : List Held) (work : Work) (start : ℕ → ℕ)
         → IssueIsArrival tree assigned work start }
 {}

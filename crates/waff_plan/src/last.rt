@@ -1,4 +1,4 @@
-//! The latest of all messages so far, with its span.
+//! The latest of all messages so far that have an affinity, with its span.
 
 ghost use Rattle.std.specs.Prelude.{◌≡◌, ◌↔◌, ◌⊎◌, Some, IsTrue, option_map};
 ghost use Rattle.waff_model.specs.Preorder.{Spans};

@@ -14,7 +14,9 @@ ghost use Rattle.waff_plan.specs.LowerBound.{earliest_finish, lower_bound_of, ow
 ghost use Rattle.waff_plan.specs.LowerBound.{NoneIsBelow, share_in};
 ghost use Rattle.waff_plan.specs.Peak.{IsPeak};
 ghost use Rattle.waff_plan.specs.TreeStarts.{TreeIsReached};
+ghost use Rattle.waff_assign.specs.Held.{Held};
 
+use crate::lock_bound::longest_lock;
 use crate::peak::Peak;
 use crate::{Awaited, Plan, Planned};
 use std::alloc::{AllocError, Global};
@@ -23,19 +25,19 @@ use waff_model::{AffinityId, Await};
 
 /// No plan that obeys is shorter than the lower bound, in whatever order it serves.
 pub fn none_is_below()
-    ensures { (workers : Option ℕ) (tree : List Node) (assigned : List ℕ) (work : Work)
+    ensures { (workers : Option ℕ) (tree : List Node) (assigned : List Held) (work : Work)
         → NoneIsBelow workers tree assigned work }
 {}
 
 /// The costs on the longest path of affinities are reached, in some order.
 pub fn tree_is_reached()
-    ensures { (tree : List Node) (assigned : List ℕ) (work : Work)
+    ensures { (tree : List Node) (assigned : List Held) (work : Work)
         → TreeIsReached tree assigned work }
 {}
 
 /// The lower bound for the messages of a plan, for these workers or none: the greatest of a worker's
-/// share of all costs, of what messages that await one another need, and of the costs on a path of
-/// affinities. The starts of the plan count for nothing.
+/// share of all costs, of what messages that await one another need, of the costs on a path of
+/// affinities, and of what messages need of a lock. The starts of the plan count for nothing.
 pub fn lower_bound(
     alloc: Global,
     planned: &Planned<'_>,
@@ -48,7 +50,8 @@ pub fn lower_bound(
     let share = share(planned.plan.total(), workers);
     let awaiting = longest_awaiting(alloc, planned.plan, Awaited::Every)?;
     let paths = longest_path(alloc, planned)?;
-    Ok(share.max(awaiting.ticks.max(paths.ticks)))
+    let locks = longest_lock(alloc, planned)?;
+    Ok(share.max(awaiting.ticks.max(paths.ticks.max(locks.ticks))))
 }
 
 // The share of one of the workers, rounded up; 0 where there are none.
@@ -145,7 +148,7 @@ pub fn longest_path(alloc: Global, planned: &Planned<'_>) -> Result<Peak, AllocE
 }
 
 // The sum of the costs in each affinity.
-fn own_costs(alloc: Global, case: &Case<'_>, plan: &Plan) -> Result<Vec<u64>, AllocError>
+pub(crate) fn own_costs(alloc: Global, case: &Case<'_>, plan: &Plan) -> Result<Vec<u64>, AllocError>
     requires lengths { length plan.now.timings ≡ length case.now.assigned.now }
     ensures count { IfOk result (λ costs. length costs.items ≡ length case.now.tree.now) }
     ensures each { IfOk result (λ costs. (a : ℕ) → a < length case.now.tree.now
@@ -153,9 +156,10 @@ fn own_costs(alloc: Global, case: &Case<'_>, plan: &Plan) -> Result<Vec<u64>, Al
 {
     let mut costs = vec![in alloc; 0; case.tree.len() as usize]?;
     for n in 1..plan.len() + 1 {
-        let a = case.assigned.of(n).0 as usize;
-        let cost = costs[a] + plan.cost(n);
-        costs[a] = cost;
+        if let Some(affinity) = case.assigned.affinity(n) {
+            let a = affinity.0 as usize;
+            costs[a] = costs[a] + plan.cost(n);
+        }
     }
     Ok(costs)
 }

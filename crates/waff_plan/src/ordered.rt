@@ -1,14 +1,15 @@
 //! Whether of the messages of a plan that exclude each other, one after another in some sequence,
 //! the later start when the earlier have finished.
 
-ghost use Rattle.std.specs.Prelude.{◌≡◌, ◌<◌, ◌≤◌, ◌↔◌, ℕ, List, length, option_map, All, None};
+ghost use Rattle.std.specs.Prelude.{◌≡◌, ◌<◌, ◌≤◌, ◌↔◌, ℕ, List, length, option_map, None};
 ghost use Rattle.std.specs.Prelude.{IfOk, IfSome, IsTrue};
-ghost use Rattle.waff_model.specs.declared.preorder.Span.{Span};
+ghost use Rattle.waff_model.specs.Numbers.{IsAmongFirst};
+ghost use Rattle.waff_assign.specs.Held.{AreKnown};
 ghost use Rattle.waff_assign.specs.Order.{IsOrdered};
 ghost use Rattle.waff_plan.specs.ByStart.{AreMessages, walk_of};
 ghost use Rattle.waff_plan.specs.Keeps.{KeepsPairs};
 ghost use Rattle.waff_plan.specs.Obeys.{IsAmong, KeepsOrder};
-ghost use Rattle.waff_plan.specs.Table.{IsLatestMeeting, IsTable};
+ghost use Rattle.waff_plan.specs.Table.{IsLatestExcluding, IsTable};
 ghost use Rattle.waff_plan.specs.Timetable.{work_in, starts_in};
 
 use crate::Plan;
@@ -17,7 +18,7 @@ use crate::sequence::{Started, number_at};
 use crate::table::Table;
 use std::alloc::{AllocError, Global};
 use waff_assign::Assigned;
-use waff_model::{Span, Tree};
+use waff_model::Tree;
 
 /// Which pairs of messages are looked at, by the numbers of the two.
 #[derive(Clone, Copy)]
@@ -40,7 +41,7 @@ impl Pairs {
 }
 
 /// Whether each message starts only when every earlier one of the first `count` that excludes it
-/// has finished. Each message is looked at once, by the span of its affinity.
+/// has finished. Each message is looked at once.
 pub fn keeps_order(
     alloc: Global,
     tree: &Tree,
@@ -49,7 +50,7 @@ pub fn keeps_order(
     count: u32,
 ) -> Result<bool, AllocError>
     requires lengths { length plan.now.timings ≡ length assigned.now }
-    requires known { All (λ a. a < length tree.now) assigned.now }
+    requires known { AreKnown tree.now assigned.now }
     ensures { IfOk result (λ kept. IsTrue kept
         ↔ KeepsOrder (IsAmong count (IsOrdered tree.now assigned.now))
         (work_in plan.now) (starts_in plan.now)) }
@@ -63,8 +64,7 @@ pub fn keeps_order(
 }
 
 /// Whether of each of these pairs in a sequence of the messages the later starts only when the
-/// earlier has finished, where the two exclude each other. Each message is looked at once, by the
-/// span of its affinity, with the latest of those that were noted before it.
+/// earlier has finished, where the two exclude each other. Each message is looked at once, with the latest of those that were noted before it.
 pub(crate) fn keeps(
     alloc: Global,
     tree: &Tree,
@@ -74,41 +74,36 @@ pub(crate) fn keeps(
     pairs: Pairs,
 ) -> Result<bool, AllocError>
     requires lengths { length plan.now.timings ≡ length assigned.now }
-    requires known { All (λ a. a < length tree.now) assigned.now }
+    requires known { AreKnown tree.now assigned.now }
     requires sequence { AreMessages (length plan.now.timings)
         (walk_of (length plan.now.timings) (option_map (λ list. list.items) sequence.now)) }
     ensures { IfOk result (λ kept. IsTrue kept
         ↔ KeepsPairs tree.now assigned.now (work_in plan.now) (starts_in plan.now)
         (walk_of (length plan.now.timings) (option_map (λ list. list.items) sequence.now)) pairs) }
 {
-    let spans = tree.spans();
-    let mut table = Table::new(alloc, tree.len() as usize)?;
+    let mut table = Table::new(alloc, tree, assigned)?;
     for place in 0..plan.len() {
         let m = number_at(sequence, place);
-        let span = spans[assigned.of(m).0 as usize];
-        if !is_finished_by(latest_for(&table, span, m, pairs.last), plan.start(m)) {
+        if !is_finished_by(latest_for(&table, m, pairs.last), plan.start(m)) {
             return Ok(false);
         }
         if pairs.notes(m) {
             let finish = plan.finish(m);
-            table.note(span, Latest { finish, number: m });
+            table.note(Latest { finish, number: m });
         }
     }
     Ok(true)
 }
 
-/// The latest message that excludes the one, of number `m`, that has this span, where `m` is one of
-/// the first `last`.
-fn latest_for(table: &Table, span: Span, m: u32, last: u32) -> Option<Latest>
-    requires forward { span.first < span.end }
-    requires within { span.end ≤ length table.now.own }
+/// The latest message that excludes message `m`, where `m` is one of the first `last`.
+fn latest_for(table: &Table<'_>, m: u32, last: u32) -> Option<Latest>
+    requires number { IsAmongFirst (length table.now.assigned) m }
     ensures latest { m ≤ last
-        → (spans : List Span) (assigned : List ℕ) (finish : ℕ → ℕ) (noted : List ℕ)
-        → IsTable spans assigned finish noted table.now
-        → IsLatestMeeting spans assigned finish noted span result }
+        → (finish : ℕ → ℕ) (noted : List ℕ) → IsTable finish noted table.now
+        → IsLatestExcluding table.now.tree table.now.assigned finish noted m result }
     ensures none { last < m → result ≡ None }
 {
-    if m <= last { table.latest(span) } else { None }
+    if m <= last { table.latest(m) } else { None }
 }
 
 /// Whether the message, where there is one, has finished by a tick.

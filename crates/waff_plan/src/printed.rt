@@ -10,6 +10,7 @@ ghost use Rattle.waff_plan.specs.Work.{IsNumber, finish_of, length_of};
 ghost use Rattle.waff_plan.specs.ServesAs.{ObeysApart};
 ghost use Rattle.waff_plan.specs.Serving.{served_in, started_in};
 ghost use Rattle.waff_plan.specs.Timetable.{IsTimetable, work_in, starts_in};
+ghost use Rattle.waff_assign.specs.Held.{AreKnown};
 
 use crate::latest::{Found, Latest};
 use crate::totals::{cost_of, release_of};
@@ -30,7 +31,7 @@ pub fn chain(
     plan: &Plan,
 ) -> Result<Chain, AllocError>
     requires lengths { length plan.now.timings ≡ length assigned.now }
-    requires known { All (λ a. a < length tree.now) assigned.now }
+    requires known { AreKnown tree.now assigned.now }
     requires served { has_clients plan.now.version ≡ true → Obeys (served_in tree.now assigned.now plan.now)
         (work_in plan.now) (starts_in plan.now) }
     ensures printed { IfOk result (λ chain. IsPrinted (started_in tree.now assigned.now plan.now)
@@ -65,7 +66,7 @@ pub fn started_chain(
     plan: &Plan,
 ) -> Result<Vec<u32>, AllocError>
     requires lengths { length plan.now.timings ≡ length assigned.now }
-    requires known { All (λ a. a < length tree.now) assigned.now }
+    requires known { AreKnown tree.now assigned.now }
     requires apart { has_clients plan.now.version ≡ true → ObeysApart tree.now assigned.now
         (work_in plan.now) (starts_in plan.now) }
     ensures printed { IfOk result (λ chain. IsPrinted (started_in tree.now assigned.now plan.now)

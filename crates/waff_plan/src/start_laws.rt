@@ -12,10 +12,11 @@ ghost use Rattle.waff_plan.specs.IssueLaws.{IsLawful};
 ghost use Rattle.waff_plan.specs.Obeys.{EachRuns, AwaitsEarlier, IsForward, Obeys, StartsIssued};
 ghost use Rattle.waff_plan.specs.ServesAs.{ObeysApart, ServesAs};
 ghost use Rattle.waff_plan.specs.Serving.{IsStartedBefore};
+ghost use Rattle.waff_assign.specs.Held.{Held};
 
 /// Messages have places in the order of the starts of a plan.
 pub fn started_pairs_are_forward()
-    ensures { (tree : List Node) (assigned : List ℕ) (work : Work) (start : ℕ → ℕ)
+    ensures { (tree : List Node) (assigned : List Held) (work : Work) (start : ℕ → ℕ)
         → length assigned ≡ work.count → EachRuns work → AwaitsEarlier work
         → StartsIssued work start → IsForward (IsStartedBefore tree assigned start) work }
 {}
@@ -23,21 +24,21 @@ pub fn started_pairs_are_forward()
 /// The laws of plans hold in the order of the starts of a plan: of its chains, and of all plans that
 /// obey that order.
 pub fn start_is_lawful()
-    ensures { (tree : List Node) (assigned : List ℕ) (work : Work) (start : ℕ → ℕ)
+    ensures { (tree : List Node) (assigned : List Held) (work : Work) (start : ℕ → ℕ)
         → length assigned ≡ work.count → EachRuns work → AwaitsEarlier work
         → StartsIssued work start → IsLawful (IsStartedBefore tree assigned start) work }
 {}
 
 /// A plan that obeys in whatever order obeys the order of its starts.
 pub fn plans_obey_their_starts()
-    ensures { (tree : List Node) (assigned : List ℕ) (work : Work) (start : ℕ → ℕ)
+    ensures { (tree : List Node) (assigned : List Held) (work : Work) (start : ℕ → ℕ)
         → length assigned ≡ work.count → EachRuns work → ObeysApart tree assigned work start
         → Obeys (IsStartedBefore tree assigned start) work start }
 {}
 
 /// So does a plan that serves as it does.
 pub fn serving_plans_obey()
-    ensures { (tree : List Node) (assigned : List ℕ) (work : Work) (start other : ℕ → ℕ)
+    ensures { (tree : List Node) (assigned : List Held) (work : Work) (start other : ℕ → ℕ)
         → length assigned ≡ work.count → EachRuns work → ServesAs tree assigned work start other
         → Obeys (IsStartedBefore tree assigned start) work other }
 {}
@@ -45,7 +46,7 @@ pub fn serving_plans_obey()
 /// In a plan that obeys the order in which it issues messages no two that exclude each other run at a
 /// common tick.
 pub fn served_plans_are_apart()
-    ensures { (tree : List Node) (assigned : List ℕ) (work : Work) (start : ℕ → ℕ)
+    ensures { (tree : List Node) (assigned : List Held) (work : Work) (start : ℕ → ℕ)
         → length assigned ≡ work.count → EachRuns work
         → Obeys (IsServedBefore tree assigned work start) work start
         → AreApart (IsOrdered tree assigned) work start }
@@ -53,7 +54,7 @@ pub fn served_plans_are_apart()
 
 /// It starts first what it issues first.
 pub fn served_is_started()
-    ensures { (tree : List Node) (assigned : List ℕ) (work : Work) (start : ℕ → ℕ)
+    ensures { (tree : List Node) (assigned : List Held) (work : Work) (start : ℕ → ℕ)
         → length assigned ≡ work.count → EachRuns work
         → Obeys (IsServedBefore tree assigned work start) work start
         → (i j : ℕ) → IsServedBefore tree assigned work start i j

@@ -1,96 +1,127 @@
-//! A table of the latest of the messages that are noted, by the spans of their affinities in preorder.
+//! A table of the latest of the messages that are noted: by the spans of their affinities in preorder, and by the locks
+//! that they use.
 
-ghost use Rattle.std.specs.Prelude.{◌≡◌, ℕ, ◌<◌, ◌≤◌, List, [], ◌∷◌, ◌++◌, length, IfOk};
-ghost use Rattle.waff_model.specs.declared.preorder.Span.{Span};
-ghost use Rattle.waff_plan.specs.Table.{message_span, IsTable, IsLatestMeeting};
+ghost use Rattle.std.specs.Prelude.{◌≡◌, ℕ, ◌<◌, ◌≤◌, List, [], ◌∷◌, ◌++◌, length, option_map, IfOk, IfSome};
+ghost use Rattle.waff_assign.specs.Held.{AreKnown, Held};
+ghost use Rattle.waff_model.specs.Numbers.{IsAmongFirst};
+ghost use Rattle.waff_plan.specs.Table.{IsLatestByTree, IsLatestExcluding, IsTable};
 
-use crate::last::{Placed, later_placed};
 use crate::latest::{Found, Latest};
+use crate::lock_table::LockTable;
+use crate::place_table::PlaceTable;
 use std::alloc::{AllocError, Global};
 use std::marker::Model;
-use waff_model::Span;
-use waff_model::limits::MAX_MESSAGES;
-use waff_model::spans::{Later, Spread, Standing};
+use waff_assign::{Assigned, is_root};
+use waff_model::spans::Later;
+use waff_model::{AffinityId, Span, Tree};
 
-/// The messages that are noted. One whose affinity is at or above another's is noted at the first place of
-/// that one, and one whose affinity is at or below it stands at a place of its span.
+/// The messages that are noted, of those that hold this under the tree.
 #[derive(Drop)]
-pub struct Table {
-    own: Standing<Found>,
-    over: Spread<Found>,
-    /// The latest of all, which often excludes the next message.
-    last: Option<Placed>,
+pub struct Table<'a> {
+    tree: &'a Tree,
+    spans: &'a [Span],
+    assigned: &'a Assigned,
+    places: PlaceTable,
+    locks: LockTable,
 }
 
-impl Model for Table {
-    ghost use Rattle.std.specs.Prelude.{◌≡◌, length};
+impl<'a> Model for Table<'a> {
     ghost use Rattle.waff_plan.specs.Table.{LatestTable};
+    ghost use Rattle.waff_plan.specs.TableFit.{Fits};
 
     ghost Value = { LatestTable };
 
-    ghost view = { λ t. record { own = t.own; over = t.over; last = t.last } };
+    ghost view = { λ t. record {
+      tree = t.tree.now;
+      spans = t.spans.now;
+      assigned = t.assigned.now;
+      places = t.places;
+      locks = t.locks;
+    } };
 
-    ghost invariant = { λ t. length t.over ≡ length t.own };
+    ghost invariant = { λ t. Fits (record {
+      tree = t.tree.now;
+      spans = t.spans.now;
+      assigned = t.assigned.now;
+      places = t.places;
+      locks = t.locks;
+    }) };
 }
 
-impl Table {
-    /// The table of no message, for these many places.
-    pub fn new(alloc: Global, count: usize) -> Result<Self, AllocError>
-        ensures count { IfOk result (λ table. length table.own ≡ count) }
-        ensures table { IfOk result (λ table.
-            (spans : List Span) (assigned : List ℕ) (finish : ℕ → ℕ)
-            → IsTable spans assigned finish [] table) }
+impl<'a> Table<'a> {
+    /// The table of no message.
+    pub fn new(alloc: Global, tree: &'a Tree, assigned: &'a Assigned) -> Result<Self, AllocError>
+        requires known { AreKnown tree.now assigned.now }
+        ensures tree { IfOk result (λ table. table.tree ≡ tree.entry.now) }
+        ensures assigned { IfOk result (λ table. table.assigned ≡ assigned.entry.now) }
+        ensures table { IfOk result (λ table. (finish : ℕ → ℕ) → IsTable finish [] table) }
     {
+        // Tells that the messages are few.
+        let _ = assigned.len();
+        let count = tree.len() as usize;
+        let lock_count = assigned.lock_count() as usize;
         Ok(Table {
-            own: Standing::none(alloc, count)?,
-            over: Spread::none(alloc, count)?,
-            last: None,
+            tree,
+            spans: tree.spans(),
+            assigned,
+            places: PlaceTable::new(alloc, count)?,
+            locks: LockTable::new(alloc, lock_count)?,
         })
     }
 
-    /// The latest message whose affinity excludes the one that has this span.
-    pub fn latest(&self, span: Span) -> Option<Latest>
-        requires forward { span.first < span.end }
-        requires within { span.end ≤ length self.now.own }
-        ensures { (spans : List Span) (assigned : List ℕ) (finish : ℕ → ℕ) (noted : List ℕ)
-            → IsTable spans assigned finish noted self.now
-            → IsLatestMeeting spans assigned finish noted span result }
+    /// The latest message that excludes message `m`, from 1.
+    pub fn latest(&self, m: u32) -> Option<Latest>
+        requires number { IsAmongFirst (length self.now.assigned) m }
+        ensures { (finish : ℕ → ℕ) (noted : List ℕ) → IsTable finish noted self.now
+            → IsLatestExcluding self.now.tree self.now.assigned finish noted m result }
     {
-        match self.last {
-            Some(last) if last.meets(span) => Some(last.message),
-            _ => self.latest_by_spans(span),
+        let (affinity, uses) = (self.assigned.affinity(m), self.assigned.uses(m));
+        let by_tree = self.latest_by_tree(affinity);
+        if is_root(affinity) {
+            return by_tree.later(self.locks.some).message();
+        }
+        if uses.is_empty() {
+            return by_tree.message();
+        }
+        let spans = self.spans;
+        let in_root = self.places.latest_over(spans[0].first as usize);
+        by_tree
+            .later(in_root)
+            .later(self.locks.latest(uses))
+            .message()
+    }
+
+    /// The latest message whose affinity excludes this one, where there is one.
+    fn latest_by_tree(&self, affinity: Option<AffinityId>) -> Found
+        requires within { IfSome affinity (λ a. a.0 < length self.now.tree) }
+        ensures { (finish : ℕ → ℕ) (noted : List ℕ) → IsTable finish noted self.now
+            → (held : Held) → held.affinity ≡ option_map (λ a. a.0) affinity
+            → IsLatestByTree self.now.tree self.now.assigned finish noted held result }
+    {
+        let spans = self.spans;
+        match affinity {
+            Some(affinity) => self.places.latest(spans[affinity.0 as usize]),
+            None => Found::none(),
         }
     }
 
-    /// The same, by what is noted at its first place and what stands in its span.
-    fn latest_by_spans(&self, span: Span) -> Option<Latest>
-        requires forward { span.first < span.end }
-        requires within { span.end ≤ length self.now.own }
-        ensures { (spans : List Span) (assigned : List ℕ) (finish : ℕ → ℕ) (noted : List ℕ)
-            → IsTable spans assigned finish noted self.now
-            → IsLatestMeeting spans assigned finish noted span result }
-    {
-        let (first, end) = (span.first as usize, span.end as usize);
-        let above = self.over.at(first);
-        let below = self.own.latest(first, end);
-        above.later(below).message()
-    }
-
-    /// Notes a message, whose affinity has this span.
-    pub fn note(&mut self, span: Span, message: Latest)
-        requires forward { span.first < span.end }
-        requires within { span.end ≤ length self.old.own }
-        requires few { message.number ≤ MAX_MESSAGES }
-        ensures count { length self.new.own ≡ length self.old.own }
-        ensures table { (spans : List Span) (assigned : List ℕ) (finish : ℕ → ℕ) (noted : List ℕ)
-            → IsTable spans assigned finish noted self.old
-            → message_span spans assigned message.number ≡ span
+    /// Notes a message.
+    pub fn note(&mut self, message: Latest)
+        requires number { IsAmongFirst (length self.old.assigned) message.number }
+        ensures tree { self.new.tree ≡ self.old.tree }
+        ensures assigned { self.new.assigned ≡ self.old.assigned }
+        ensures table { (finish : ℕ → ℕ) (noted : List ℕ) → IsTable finish noted self.old
             → finish message.number ≡ message.finish
-            → IsTable spans assigned finish (noted ++ message.number ∷ []) self.new }
+            → IsTable finish (noted ++ message.number ∷ []) self.new }
     {
-        let (first, end) = (span.first as usize, span.end as usize);
-        self.own.put(first, Found::one(message));
-        self.over.note(first, end, Found::one(message));
-        self.last = Some(later_placed(self.last, Placed { message, span }));
+        let (affinity, uses) = (
+            self.assigned.affinity(message.number),
+            self.assigned.uses(message.number),
+        );
+        let spans = self.spans;
+        self.locks.note(uses, message);
+        if let Some(affinity) = affinity {
+            self.places.note(spans[affinity.0 as usize], message);
+        }
     }
 }

@@ -6,6 +6,7 @@ ghost use Rattle.waff_plan.specs.Links.{AreLinks};
 ghost use Rattle.waff_plan.specs.Obeys.{IsLeast};
 ghost use Rattle.waff_plan.specs.Serving.{served_in, started_in};
 ghost use Rattle.waff_plan.specs.Timetable.{timings_of, work_in, starts_in};
+ghost use Rattle.waff_assign.specs.Held.{AreKnown};
 
 use crate::Plan;
 use crate::latest::Latest;
@@ -26,7 +27,7 @@ pub fn plan(
     trace: &Trace,
 ) -> Result<Plan, AllocError>
     requires lengths { length trace.now.messages ≡ length assigned.now }
-    requires known { All (λ a. a < length tree.now) assigned.now }
+    requires known { AreKnown tree.now assigned.now }
     ensures version { IfOk result (λ plan. plan.version ≡ trace.now.version) }
     ensures timings { IfOk result (λ plan. plan.timings ≡ timings_of trace.now.messages) }
     ensures lengths { IfOk result (λ plan. length plan.timings ≡ length assigned.now) }
@@ -48,7 +49,7 @@ pub fn linked_plan(
     trace: &Trace,
 ) -> Result<(Plan, Vec<Option<u32>>), AllocError>
     requires lengths { length trace.now.messages ≡ length assigned.now }
-    requires known { All (λ a. a < length tree.now) assigned.now }
+    requires known { AreKnown tree.now assigned.now }
     ensures version { IfOk result (λ made. made.0.version ≡ trace.now.version) }
     ensures timings { IfOk result (λ made. made.0.timings ≡ timings_of trace.now.messages) }
     ensures lengths { IfOk result (λ made. length made.0.timings ≡ length assigned.now) }
@@ -63,18 +64,16 @@ pub fn linked_plan(
     let mut plan = Plan::unstarted(alloc, trace)?;
     let mut left = plan.len();
     let mut turns = first_turns(alloc, &plan)?;
-    let mut table = Table::new(alloc, tree.len() as usize)?;
+    let mut table = Table::new(alloc, tree, assigned)?;
     let mut links = vec![in alloc; None; plan.len() as usize]?;
-    let spans = tree.spans();
     while let Some((_, m)) = turns.take() {
         left -= 1;
-        let span = spans[assigned.of(m).0 as usize];
-        let latest = table.latest(span);
+        let latest = table.latest(m);
         links[m as usize - 1] = wait(&plan, m, latest, Since::Release);
         let start = start_at(plan.issue(m), latest);
         plan.set_start(m, start);
         let finish = plan.finish(m);
-        table.note(span, Latest { finish, number: m });
+        table.note(Latest { finish, number: m });
         turns.admit(&plan, m)?;
     }
     Ok((plan, links))

@@ -6,6 +6,7 @@ ghost use Rattle.waff_plan.specs.Obeys.{Obeys};
 ghost use Rattle.waff_plan.specs.Serving.{served_in, started_in};
 ghost use Rattle.waff_plan.specs.Timetable.{work_in, starts_in};
 ghost use Rattle.waff_plan.specs.Waited.{AreWaitedFor};
+ghost use Rattle.waff_assign.specs.Held.{AreKnown};
 
 use crate::Plan;
 use crate::waits::{Since, waits};
@@ -24,7 +25,7 @@ pub fn waited(
     plan: &Plan,
 ) -> Result<Vec<Option<u32>>, AllocError>
     requires lengths { length plan.now.timings ≡ length assigned.now }
-    requires known { All (λ a. a < length tree.now) assigned.now }
+    requires known { AreKnown tree.now assigned.now }
     requires served { has_clients plan.now.version ≡ true → Obeys (served_in tree.now assigned.now plan.now)
         (work_in plan.now) (starts_in plan.now) }
     ensures count { IfOk result (λ waited. length waited.items ≡ length plan.now.timings) }

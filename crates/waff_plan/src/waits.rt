@@ -10,6 +10,7 @@ ghost use Rattle.waff_plan.specs.Serving.{started_in};
 ghost use Rattle.waff_plan.specs.Timetable.{work_in, starts_in};
 ghost use Rattle.waff_plan.specs.Waits.{AreWaits, wait_of};
 ghost use Rattle.waff_plan.specs.Work.{IsNumber, finish_of};
+ghost use Rattle.waff_assign.specs.Held.{AreKnown};
 
 use crate::Plan;
 use crate::latest::{Latest, is_later};
@@ -37,7 +38,7 @@ pub(crate) fn waits(
     since: Since,
 ) -> Result<Vec<Option<u32>>, AllocError>
     requires lengths { length plan.now.timings ≡ length assigned.now }
-    requires known { All (λ a. a < length tree.now) assigned.now }
+    requires known { AreKnown tree.now assigned.now }
     requires apart { has_clients plan.now.version ≡ true → ObeysApart tree.now assigned.now
         (work_in plan.now) (starts_in plan.now) }
     ensures count { IfOk result (λ waits. length waits.items ≡ length plan.now.timings) }
@@ -46,16 +47,14 @@ pub(crate) fn waits(
         (work_in plan.now) (starts_in plan.now)
         (length plan.now.timings) waits.items) }
 {
-    let spans = tree.spans();
     let started = in_order(alloc, plan)?;
-    let mut table = Table::new(alloc, tree.len() as usize)?;
+    let mut table = Table::new(alloc, tree, assigned)?;
     let mut waits = vec![in alloc; None; plan.len() as usize]?;
     for place in 0..plan.len() {
         let m = number_at(&started, place);
-        let span = spans[assigned.of(m).0 as usize];
-        waits[m as usize - 1] = wait(plan, m, table.latest(span), since);
+        waits[m as usize - 1] = wait(plan, m, table.latest(m), since);
         let finish = plan.finish(m);
-        table.note(span, Latest { finish, number: m });
+        table.note(Latest { finish, number: m });
     }
     Ok(waits)
 }

@@ -12,12 +12,13 @@ use Rattle.std.proofs.lemmas.List.FromFn.{get_or-map-range_with_len, length-map-
 use Rattle.std.proofs.lemmas.Option.{get_or_from_slice_get, slice_get-get_or, slice_get_within}
 use Rattle.csv.specs.Reading.{strip_bom}
 use Rattle.waff_model.specs.Names.{is_name, is_name_byte}
-use Rattle.waff_model.specs.Tree.{Node, name_of}
+use Rattle.waff_model.specs.Tree.{Node}
 use Rattle.waff_model.specs.Versions.{has_releases}
 use Rattle.waff_model.specs.declared.limits.TheConstants.{MAX_MESSAGES, MAX_TICK, MAX_WORKERS}
 use Rattle.waff_model.specs.declared.message.Version.{Version}
 use Rattle.waff_model.specs.declared.message.Version.TheVariants.{V1, V2, V3, V4}
-use Rattle.waff_assign.specs.Order.{affinity_of}
+use Rattle.waff_assign.specs.Held.{Held}
+use Rattle.waff_assign.specs.Order.{affinity_name}
 use Rattle.waff_plan.specs.Bound.{IsWorkers}
 use Rattle.waff_plan.specs.Chain.{IsListed, IsAmongFirst}
 use Rattle.waff_plan.specs.Totals.{totals_of}
@@ -102,7 +103,7 @@ front_is (row ∷ rows) first more none begins =
     (rw (other, others.0) refl, rw other others.1)
 
 -- the lines of messages are their rows
-module _ (version : Version) (tree : List Node) (assigned : List ℕ) (work : Work) (start : ℕ → ℕ) (worker : ℕ → Option ℕ)
+module _ (version : Version) (tree : List Node) (assigned : List Held) (work : Work) (start : ℕ → ℕ) (worker : ℕ → Option ℕ)
     (few_messages : work.count ≤ MAX_MESSAGES) (tellable : (n : ℕ) → IsNumber work n → IsRow (row_told tree assigned work start worker n)) where
   line : ℕ → Record
   line = message_row tree assigned work start worker
@@ -115,7 +116,7 @@ module _ (version : Version) (tree : List Node) (assigned : List ℕ) (work : Wo
   line_is_simple n number =
       let is = tellable n number in
       let to : n ≤ work.count = number.to in
-      simple_row n (start n) (finish_of work start n) (name_of tree (affinity_of assigned n)) (worker n) (omega arith) is.named
+      simple_row n (start n) (finish_of work start n) (affinity_name tree assigned n) (worker n) (omega arith) is.named
       (small_tick (start n) is.times.start) (small_tick (finish_of work start n) is.times.finish) (small_worker (worker n) is.worker)
 
   line_is_row : (n : ℕ) → IsNumber work n → IsRowOf work.count (line n) n (told n)
@@ -294,7 +295,7 @@ no_mark : (rows : List Record) → strip_bom (text_of (plan_header ∷ rows)) �
 unfolding strip_bom
 no_mark rows = refl
 
-pub written_is_read : (version : Version) (tree : List Node) (assigned : List ℕ) (work : Work) (workers : Option ℕ) (start : ℕ → ℕ) (worker : ℕ → Option ℕ)
+pub written_is_read : (version : Version) (tree : List Node) (assigned : List Held) (work : Work) (workers : Option ℕ) (start : ℕ → ℕ) (worker : ℕ → Option ℕ)
     (chain : List ℕ) → WrittenIsRead version tree assigned work workers start worker chain
 unfolding line told lines summary_lines
 written_is_read version tree assigned work workers start worker chain tellable =

@@ -1,11 +1,12 @@
 -- What is written of a plan is read.
 use Rattle.std.specs.Prelude.{◌≡◌, ℕ, ◌≤◌, true, List, map, Option, IfSome, Ok}
 use Rattle.waff_model.specs.Names.{is_name}
-use Rattle.waff_model.specs.Tree.{Node, name_of}
+use Rattle.waff_model.specs.Tree.{Node}
 use Rattle.waff_model.specs.declared.limits.TheConstants.{MAX_MESSAGES, MAX_TICK}
 use Rattle.waff_model.specs.declared.message.Version.{Version}
 use Rattle.waff_model.specs.declared.message.Version.TheVariants.{V1}
-use Rattle.waff_assign.specs.Order.{affinity_of}
+use Rattle.waff_assign.specs.Held.{Held}
+use Rattle.waff_assign.specs.Order.{affinity_name}
 use Rattle.waff_plan.specs.Bound.{IsWorkers}
 use Rattle.waff_plan.specs.Chain.{IsListed}
 use Rattle.waff_plan.specs.Totals.{totals_of}
@@ -19,9 +20,9 @@ use Rattle.waff_plan_text.specs.Spelling.{plan_lines}
 use Rattle.waff_plan_text.specs.declared.row.Row.{Row}
 
 -- what the line of message n tells
-abbrev pub row_told : List Node → List ℕ → Work → (ℕ → ℕ) → (ℕ → Option ℕ) → ℕ → Row
+abbrev pub row_told : List Node → List Held → Work → (ℕ → ℕ) → (ℕ → Option ℕ) → ℕ → Row
 row_told tree assigned work start worker n = record {
-  affinity = name_of tree (affinity_of assigned n);
+  affinity = affinity_name tree assigned n;
   start = start n;
   finish = finish_of work start n;
   worker = worker n;
@@ -29,7 +30,7 @@ row_told tree assigned work start worker n = record {
 
 -- the plan that its lines tell
 abbrev pub plan_told : Version → List Node
-    → List ℕ → Work → Option ℕ → (ℕ → ℕ) → (ℕ → Option ℕ) → List ℕ → Given
+    → List Held → Work → Option ℕ → (ℕ → ℕ) → (ℕ → Option ℕ) → List ℕ → Given
 plan_told version tree assigned work workers start worker chain = record {
   version = version;
   rows = map (row_told tree assigned work start worker) (numbers work);
@@ -55,7 +56,7 @@ pub record AreTotals (version : Version) (totals : Totals) : Type 0 where
 
 -- a plan that a text can tell
 pub record IsTellable (version : Version)
-    (tree : List Node) (assigned : List ℕ) (work : Work) (workers : Option ℕ) (start : ℕ → ℕ)
+    (tree : List Node) (assigned : List Held) (work : Work) (workers : Option ℕ) (start : ℕ → ℕ)
     (worker : ℕ → Option ℕ) (chain : List ℕ) : Type 0 where
   pub few : work.count ≤ MAX_MESSAGES
   pub rows : (n : ℕ) → IsNumber work n → IsRow (row_told tree assigned work start worker n)
@@ -65,7 +66,7 @@ pub record IsTellable (version : Version)
 
 -- from the lines of a plan that a text can tell that plan is read
 abbrev pub WrittenIsRead : Version → List Node
-    → List ℕ → Work → Option ℕ → (ℕ → ℕ) → (ℕ → Option ℕ) → List ℕ → Type 0
+    → List Held → Work → Option ℕ → (ℕ → ℕ) → (ℕ → Option ℕ) → List ℕ → Type 0
 WrittenIsRead version tree assigned work workers start worker chain =
     IsTellable version tree assigned work workers start worker chain
     → plan_of version work.count

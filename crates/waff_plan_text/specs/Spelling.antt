@@ -4,8 +4,9 @@ use Rattle.std.specs.Prelude.{ℕ, ◌-◌, List, [], ◌∷◌, ◌++◌, Optio
 use Rattle.std.specs.Prelude.{codes, decimal}
 use Rattle.std.specs.List.{join_by}
 use Rattle.waff_model.specs.declared.message.Version.{Version}
-use Rattle.waff_model.specs.Tree.{Node, name_of}
-use Rattle.waff_assign.specs.Order.{affinity_of}
+use Rattle.waff_model.specs.Tree.{Node}
+use Rattle.waff_assign.specs.Held.{Held}
+use Rattle.waff_assign.specs.Order.{affinity_name}
 use Rattle.waff_plan.specs.Totals.{totals_of}
 use Rattle.waff_plan.specs.Work.{Work, finish_of, numbers}
 use Rattle.waff_plan.specs.declared.totals.Totals.{Totals}
@@ -24,15 +25,15 @@ abbrev pub worker_field : Option ℕ → List ℕ
 worker_field None = codes "-"
 worker_field (Some worker) = decimal worker
 
--- the line of a message: its number, the name of its affinity, start, finish and worker
+-- the line of a message: its number, the name of its affinity, a hyphen where it has none, start, finish and worker
 abbrev pub plan_row : ℕ → List ℕ → ℕ → ℕ → Option ℕ → List (List ℕ)
 plan_row message affinity start finish worker =
     decimal message ∷ affinity ∷ decimal start ∷ decimal finish ∷ worker_field worker ∷ []
 
--- the line of message n under a tree, the affinities assigned, and a plan
-abbrev pub message_row : List Node → List ℕ → Work → (ℕ → ℕ) → (ℕ → Option ℕ) → ℕ → List (List ℕ)
+-- the line of message n under a tree, what messages hold, and a plan
+abbrev pub message_row : List Node → List Held → Work → (ℕ → ℕ) → (ℕ → Option ℕ) → ℕ → List (List ℕ)
 message_row tree assigned work start worker n =
-    plan_row n (name_of tree (affinity_of assigned n)) (start n) (finish_of work start n) (worker n)
+    plan_row n (affinity_name tree assigned n) (start n) (finish_of work start n) (worker n)
 
 -- numbers joined by spaces
 abbrev pub numbers_field : List ℕ → List ℕ
@@ -58,7 +59,7 @@ summary_lines version workers chain totals =
 -- the lines of a plan for this number of workers, or without workers, and of a chain of its
 -- messages
 abbrev pub plan_lines : Version → List Node
-    → List ℕ → Work → Option ℕ → (ℕ → ℕ) → (ℕ → Option ℕ) → List ℕ → List (List (List ℕ))
+    → List Held → Work → Option ℕ → (ℕ → ℕ) → (ℕ → Option ℕ) → List ℕ → List (List (List ℕ))
 plan_lines version tree assigned work workers start worker chain =
     plan_header ∷ map (message_row tree assigned work start worker) (numbers work)
     ++ summary_lines version workers chain (totals_of workers work start chain)
@@ -78,12 +79,12 @@ workers_of (Some seats) = seat_of seats
 
 -- the lines of a plan without workers
 abbrev pub unlimited_lines : Version → List Node
-    → List ℕ → Work → (ℕ → ℕ) → List ℕ → List (List (List ℕ))
+    → List Held → Work → (ℕ → ℕ) → List ℕ → List (List (List ℕ))
 unlimited_lines version tree assigned work start chain =
     plan_lines version tree assigned work None start no_worker chain
 
 -- the lines of a plan for k workers, with the worker of each message
 abbrev pub worker_lines : Version → List Node
-    → List ℕ → Work → ℕ → (ℕ → ℕ) → List ℕ → List ℕ → List (List (List ℕ))
+    → List Held → Work → ℕ → (ℕ → ℕ) → List ℕ → List ℕ → List (List (List ℕ))
 worker_lines version tree assigned work k start seats chain =
     plan_lines version tree assigned work (Some k) start (seat_of seats) chain

@@ -15,11 +15,12 @@ ghost use Rattle.waff_plan_text.specs.Refused.{FirstFaultDecides};
 ghost use Rattle.waff_plan_text.specs.SpelledLines.{LinesAreExact};
 ghost use Rattle.waff_plan_text.specs.SpelledSummaries.{SummaryIsExact};
 ghost use Rattle.waff_plan_text.specs.declared.table.Line.{Line};
+ghost use Rattle.waff_assign.specs.Held.{Held};
 
 /// A plan is read from the text that is written of it.
 pub fn written_is_read()
     ensures read { (version : Version) (tree : List Node)
-        (assigned : List ℕ) (work : Work) (workers : Option ℕ)
+        (assigned : List Held) (work : Work) (workers : Option ℕ)
         (start : ℕ → ℕ) (worker : ℕ → Option ℕ) (chain : List ℕ)
         → WrittenIsRead version tree assigned work workers start worker chain }
 {}

@@ -1,5 +1,5 @@
 -- How far the reading of a hierarchy has come.
-use Rattle.std.proofs.Common.{◌≡◌, ◌≢◌, ℕ, List, Option, Some, None, Result, Ok, Err, option_map, unwrap_or, map, codes, refl, sym, ap, ◌∙◌}
+use Rattle.std.proofs.Common.{◌≡◌, ◌≢◌, ℕ, List, Option, Some, None, Result, Ok, Err, option_map, unwrap_or, map, refl, sym, ap, ◌∙◌}
 use Rattle.std.specs.Option.{ok_or}
 use Rattle.toml.specs.Data.{Data}
 use Rattle.toml.specs.View.{view}
@@ -18,9 +18,9 @@ use Rattle.waff_model.specs.declared.kind.Kind.{Kind}
 use Rattle.waff_read.specs.declared.hier_error.HierError.{HierError}
 use Rattle.waff_read.specs.declared.hier_error.HierError.TheVariants as error
 use Rattle.waff_read.specs.Checks.{passed}
-use Rattle.waff_read.specs.Documents.{document_of, rows_at}
+use Rattle.waff_read.specs.Documents.{document_of}
 use Rattle.waff_read.specs.Shapes.{shape_refusal}
-use Rattle.waff_read.specs.Affinities.{tree_of}
+use Rattle.waff_read.specs.Affinities.{tree_in}
 use Rattle.waff_read.proofs.DocumentLemmas.{map_map}
 use Rattle.waff_read.specs.HierRefusals.{Tells, shape_error, tree_error, layout_error}
 use Rattle.waff_read.specs.Hierarchies.{kind_of, kind_refusal, layout_at, layout_in, hierarchy_of}
@@ -57,7 +57,7 @@ abbrev pub after_tree : Data → Kind → List Node → Result Hierarchy HierErr
 after_tree document kind tree = passed (kind_refusal kind tree) >>= (λ _. after_level document kind tree)
 
 abbrev pub after_shape : Data → Kind → Result Hierarchy HierError
-after_shape document kind = told tree_error (tree_of (rows_at (codes "affinity") document)) >>= after_tree document kind
+after_shape document kind = told tree_error (tree_in document) >>= after_tree document kind
 
 abbrev pub after_kind : Data → Kind → Result Hierarchy HierError
 after_kind document kind = passed (option_map shape_error (shape_refusal document)) >>= (λ _. after_shape document kind)
@@ -77,7 +77,7 @@ module _ (document : Data) (kind : Kind) where
   pub at_tree : layout_in document ≡ after_kind document kind → Ok tt ≡ passed (option_map shape_error (shape_refusal document)) → layout_in document ≡ after_shape document kind
   at_tree same read = same ∙ rw (← read) refl
 
-  pub at_level : (tree : List Node) → layout_in document ≡ after_shape document kind → told tree_error (tree_of (rows_at (codes "affinity") document)) ≡ Ok tree → layout_in document ≡ after_tree document kind tree
+  pub at_level : (tree : List Node) → layout_in document ≡ after_shape document kind → told tree_error (tree_in document) ≡ Ok tree → layout_in document ≡ after_tree document kind tree
   at_level tree same read = same ∙ rw read refl
 
   pub at_layout : (tree : List Node) → layout_in document ≡ after_tree document kind tree → Ok tt ≡ passed (kind_refusal kind tree) → layout_in document ≡ after_level document kind tree

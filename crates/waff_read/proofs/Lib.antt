@@ -22,6 +22,7 @@ mod PlainLaws
 mod HalfLaws
 mod RefusalLaws
 mod AffinityLaws
+mod LockLaws
 mod RefusedLaws
 pub mod LimitLaws
 pub mod NamedLaws

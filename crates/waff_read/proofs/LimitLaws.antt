@@ -4,7 +4,6 @@ use Rattle.toml.specs.Data.{Data}
 use Rattle.waff_parse.specs.Refusals.{◌>>=◌}
 use Rattle.waff_parse.specs.Rows.{Record, records_of}
 use Rattle.waff_model.specs.Tree.{Node, IsTree}
-use Rattle.waff_model.specs.TreeRefusal.{refusal_of}
 use Rattle.waff_model.specs.Layout.{Hierarchy, IsLayout, Space}
 use Rattle.waff_model.specs.LayoutOf as model
 use Rattle.waff_model.specs.LayoutRefusal.{layout_refusal}
@@ -18,10 +17,10 @@ use Rattle.waff_model.specs.declared.message.Message.{Message}
 use Rattle.waff_model.specs.declared.message.Version.{Version}
 use Rattle.waff_model.specs.declared.tree.TreeError.{TreeError}
 use Rattle.waff_model.proofs.LayoutLemmas.{is_layout}
-use Rattle.waff_read.specs.Affinities.{node_in, tree_from, tree_of}
+use Rattle.waff_read.specs.Affinities.{node_in, row_refusal, tree_from, tree_of}
 use Rattle.waff_read.specs.Checks.{passed}
 use Rattle.waff_read.specs.Documents.{rows_at}
-use Rattle.waff_read.specs.Hierarchies.{format_of}
+use Rattle.waff_read.specs.Formats.{format_of}
 use Rattle.waff_read.specs.Limits.{LayoutIsWithinLimits, TraceIsWithinLimits}
 use Rattle.waff_read.specs.Places.{first_place}
 use Rattle.waff_read.specs.Spaces.{space_of, map_of}
@@ -31,23 +30,23 @@ use Rattle.waff_read.proofs.HierarchyLaws.{hierarchy_is_exact, rooted-tree_of}
 use Rattle.waff_read.proofs.TraceLaws.{awaited-few, lists-read, messages-few, messages-fit, ops-few}
 
 -- a tree has an affinity for each row that was read
-longer-tree_from : (tree : List Node) (rows : List Data) (read : List Node) → tree_from tree rows ≡ Ok read → length tree + length rows ≤ length read
+longer-tree_from : (format : Format) (tree : List Node) (rows : List Data) (read : List Node) → tree_from format tree rows ≡ Ok read → length tree + length rows ≤ length read
 unfolding tree_from
-longer-tree_from tree [] read done = let same : tree ≡ read = cc in rw (← same) (omega arith)
-longer-tree_from tree (row ∷ more) read done =
-    by (refusal_of tree (node_in tree row)) done (longer-tree_from (tree ++ node_in tree row ∷ []) more read)
+longer-tree_from format tree [] read done = let same : tree ≡ read = cc in rw (← same) (omega arith)
+longer-tree_from format tree (row ∷ more) read done =
+    by (row_refusal format tree row) done (longer-tree_from format (tree ++ node_in tree row ∷ []) more read)
   where
-    by : (check : Option TreeError) → (passed check >>= (λ _. tree_from (tree ++ node_in tree row ∷ []) more)) ≡ Ok read
-        → (tree_from (tree ++ node_in tree row ∷ []) more ≡ Ok read → length (tree ++ node_in tree row ∷ []) + length more ≤ length read)
+    by : (check : Option TreeError) → (passed check >>= (λ _. tree_from format (tree ++ node_in tree row ∷ []) more)) ≡ Ok read
+        → (tree_from format (tree ++ node_in tree row ∷ []) more ≡ Ok read → length (tree ++ node_in tree row ∷ []) + length more ≤ length read)
         → length tree + length (row ∷ more) ≤ length read
     by None done rest = let grown = rest done in omega (arith, grown, length-append tree (node_in tree row ∷ []))
     by (Some e) done rest = absurd (cc)
 
-is_tree-tree_of : (rows : List Data) (read : List Node) → tree_of rows ≡ Ok read → IsTree read
-is_tree-tree_of [] read done = absurd (cc)
-is_tree-tree_of (row ∷ more) read done = record {
-  rooted = rooted-tree_of (row ∷ more) read done;
-  filled = let longer = longer-tree_from [] (row ∷ more) read done in omega (arith, longer);
+is_tree-tree_of : (format : Format) (rows : List Data) (read : List Node) → tree_of format rows ≡ Ok read → IsTree read
+is_tree-tree_of format [] read done = absurd (cc)
+is_tree-tree_of format (row ∷ more) read done = record {
+  rooted = rooted-tree_of format (row ∷ more) read done;
+  filled = let longer = longer-tree_from format [] (row ∷ more) read done in omega (arith, longer);
 }
 
 is_layout-layout_of : (format : Format) (kind : Kind) (tree : List Node) (spaces : List SpaceSpec) (maps : List MapSpec) (layout : Hierarchy) → IsTree tree
@@ -64,8 +63,8 @@ is_layout-layout_of format kind tree spaces maps layout is_tree h = by (layout_r
 pub layout_is_within_limits : (bytes : List ℕ) (layout : Hierarchy) → LayoutIsWithinLimits bytes layout
 layout_is_within_limits bytes layout read =
     let d = (hierarchy_is_exact bytes layout).0 read in
-    is_layout-layout_of (format_of d.document) d.kind d.tree (map space_of (rows_at (codes "space") d.document)) (map map_of (rows_at (codes "map") d.document)) layout
-    (is_tree-tree_of (rows_at (codes "affinity") d.document) d.tree d.is_tree) d.is_layout
+    is_layout-layout_of (format_of d.document) d.kind d.tree (map (space_of (format_of d.document)) (rows_at (codes "space") d.document)) (map map_of (rows_at (codes "map") d.document)) layout
+    (is_tree-tree_of (format_of d.document) (rows_at (codes "affinity") d.document) d.tree d.is_tree) d.is_layout
 
 -- messages that are read are within the limits, and so are their lists, their number and those of their operations and of what they await
 messages-within : (version : Version) (spaces : List Space) (rows : List Record) (messages : List Message) → messages_at version spaces first_place rows ≡ Ok messages

@@ -1,5 +1,5 @@
 -- The tree of rows of affinities, and which check of a hierarchy decides.
-use Rattle.std.proofs.Common.{◌≡◌, ℕ, List, Option, Some, None, option_map, Result, Ok, Err, codes, refl, sym, ◌∙◌, subst}
+use Rattle.std.proofs.Common.{◌≡◌, ℕ, List, Option, Some, None, option_map, Result, Ok, Err, refl, sym, ◌∙◌, subst}
 use Rattle.std.specs.Option.{ok_or}
 use Rattle.toml.specs.Data.{Data}
 use Rattle.waff_parse.specs.Refusals.{◌>>=◌, told}
@@ -9,9 +9,9 @@ use Rattle.waff_model.specs.declared.kind.Kind.{Kind}
 use Rattle.waff_model.specs.declared.kind.Kind.TheVariants.{Classical, Hierarchical}
 use Rattle.waff_model.specs.declared.layout_rows.LayoutError.{LayoutError}
 use Rattle.waff_model.specs.declared.tree.TreeError.{TreeError}
-use Rattle.waff_read.specs.Affinities.{tree_of}
+use Rattle.waff_read.specs.Affinities.{tree_in}
 use Rattle.waff_read.specs.Checks.{passed}
-use Rattle.waff_read.specs.Documents.{document_of, rows_at}
+use Rattle.waff_read.specs.Documents.{document_of}
 use Rattle.waff_read.specs.HierRefusals.{shape_error, tree_error, layout_error, level_error}
 use Rattle.waff_read.specs.Hierarchies.{hierarchy_of, kind_of, kind_refusal, layout_at, layout_in, third_level_of}
 use Rattle.waff_read.specs.Shapes.{shape_refusal}
@@ -42,7 +42,7 @@ module _ (bytes : List ℕ) (e : HierError) where
   kind_refused document Hierarchical tree has same = level_refused document Hierarchical tree has None refl same
 
   tree_refused : (document : Data) (kind : Kind) → IsShaped bytes document kind → (r : Result (List Node) TreeError)
-      → tree_of (rows_at (codes "affinity") document) ≡ r → (told tree_error r >>= after_tree document kind) ≡ Err e → IsRefusedHierarchy bytes e
+      → tree_in document ≡ r → (told tree_error r >>= after_tree document kind) ≡ Err e → IsRefusedHierarchy bytes e
   tree_refused document kind shaped (Ok tree) is same = kind_refused document kind tree (record { shaped = shaped; is_tree = is }) same
   tree_refused document kind shaped (Err d) is same =
       let named : error.Tree d ≡ e = cc in
@@ -51,7 +51,7 @@ module _ (bytes : List ℕ) (e : HierError) where
   shape_refused : (document : Data) (kind : Kind) → document_of bytes ≡ Some document → kind_of document ≡ Some kind → (o : Option Key)
       → shape_refusal document ≡ o → (passed (option_map shape_error o) >>= (λ _. after_shape document kind)) ≡ Err e → IsRefusedHierarchy bytes e
   shape_refused document kind is_document is_kind None is same =
-      tree_refused document kind (record { is_document = is_document; is_kind = is_kind; is_shaped = is }) (tree_of (rows_at (codes "affinity") document)) refl same
+      tree_refused document kind (record { is_document = is_document; is_kind = is_kind; is_shaped = is }) (tree_in document) refl same
   shape_refused document kind is_document is_kind (Some key) is same =
       let named : shape_error key ≡ e = cc in
       subst (IsRefusedHierarchy bytes) named (document, kind, is_document, is_kind, is)

@@ -14,6 +14,7 @@ use Rattle.std.proofs.lemmas.Slice.Eq.{bytes_eq-Decides}
 use Rattle.waff_model.proofs.NodeEntries.{position-map}
 use Rattle.waff_model.specs.Layout.{Hierarchy, IsLayout, IsSpace, Space, name_at, names_of, space_named}
 use Rattle.waff_model.specs.Names.{is_name}
+use Rattle.waff_model.specs.declared.locking.Locking.TheVariants.{Unlocked}
 use Rattle.waff_read.proofs.SpellingLaws.{space_found}
 
 -- the place of a name is the number of the space of this name
@@ -21,7 +22,7 @@ pub place_of_name : (spaces : List Space) (name : List ℕ) → position (bytes_
 place_of_name spaces name = position-map (bytes_eq name) (λ (space : Space). space.name) spaces
 
 abbrev no_space : Space
-no_space = record { name = []; size = 0; unit = 0; to = [] }
+no_space = record { name = []; size = 0; unit = 0; to = []; locks = Unlocked }
 
 name_there : (spaces : List Space) (s : ℕ) (name : List ℕ) → s < length spaces → name_at spaces s ≡ Some name → (get_or spaces s no_space).name ≡ name
 name_there spaces s name inside is =

@@ -24,6 +24,7 @@ use Rattle.waff_model.specs.declared.cell.Cell.{Cell}
 use Rattle.waff_model.specs.Versions.{has_after, has_clients, has_releases, max_messages}
 use Rattle.waff_model.specs.declared.awaits.Await.{Await}
 use Rattle.waff_model.specs.declared.limits.TheConstants.{MAX_ALL_OPS, MAX_AWAITED}
+use Rattle.waff_model.specs.declared.locking.Locking.TheVariants.{Unlocked}
 use Rattle.waff_model.specs.declared.message.Message.{Message}
 use Rattle.waff_model.specs.declared.message.Version.{Version}
 use Rattle.waff_model.specs.declared.op.Op.{Op}
@@ -180,7 +181,7 @@ after_is_spelled n (a ∷ list) is small =
     ∙ awaits_are_read (a ∷ list) each)
 
 abbrev no_space : Space
-no_space = record { name = []; size = 0; unit = 0; to = [] }
+no_space = record { name = []; size = 0; unit = 0; to = []; locks = Unlocked }
 
 -- the name of the space s
 abbrev name_in : List Space → ℕ → List ℕ

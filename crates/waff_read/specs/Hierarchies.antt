@@ -1,5 +1,5 @@
 -- The layout that a hierarchy file is read as.
-use Rattle.std.specs.Prelude.{ℕ, ℤ, pos, negsuc, ◌==◌, nat_lt, List, Option, Some, None}
+use Rattle.std.specs.Prelude.{ℕ, nat_lt, List, Option, Some, None}
 use Rattle.std.specs.Prelude.{option_map, option_and_then}
 use Rattle.std.specs.Prelude.{unwrap_or, position, Result, codes, if◌then◌else◌}
 use Rattle.std.specs.Option.{ok_or}
@@ -9,29 +9,18 @@ use Rattle.waff_parse.specs.Refusals.{◌>>=◌, told}
 use Rattle.waff_model.specs.Tree.{Node}
 use Rattle.waff_model.specs.Layout.{Hierarchy}
 use Rattle.waff_model.specs.LayoutOf.{layout_of}
-use Rattle.waff_model.specs.declared.format.Format.{Format}
-use Rattle.waff_model.specs.declared.format.Format.TheVariants.{F1, F2}
 use Rattle.waff_model.specs.declared.kind.Kind.{Kind}
 use Rattle.waff_model.specs.declared.kind.Kind.TheVariants.{Classical, Hierarchical}
 use Rattle.waff_model.specs.declared.layout_rows.LayoutError.{LayoutError}
 use Rattle.waff_read.specs.Checks.{passed}
 use Rattle.waff_read.specs.HierRefusals.{shape_error, tree_error, level_error, layout_error}
-use Rattle.waff_read.specs.Documents.{document_of, text_at, integer_at, rows_at}
+use Rattle.waff_read.specs.Documents.{document_of, text_at}
+use Rattle.waff_read.specs.Formats.{format_of}
 use Rattle.waff_read.specs.Shapes.{shape_refusal}
-use Rattle.waff_read.specs.Affinities.{tree_of}
+use Rattle.waff_read.specs.Affinities.{tree_in}
 use Rattle.waff_read.specs.Spaces.{spaces_in, maps_in}
 use Rattle.waff_read.specs.declared.hier_error.HierError.{HierError}
 use Rattle.waff_read.specs.declared.hier_error.HierError.TheVariants.{Toml, Model}
-
--- the format of this number: the second has one, and all others count for nothing
-abbrev pub format_numbered : ℤ → Format
-format_numbered (pos n) = if n == 2 then F2 else F1
-format_numbered (negsuc n) = F1
-
--- the format of a document, the first where it names none
-abbrev pub format_of : Data → Format
-format_of document =
-    unwrap_or (option_map format_numbered (integer_at (codes "format") document)) F1
 
 -- the kind of this name
 abbrev pub kind_named : List ℕ → Option Kind
@@ -62,7 +51,7 @@ abbrev pub layout_in : Data → Result Hierarchy HierError
 layout_in document = do
   kind ← ok_or (kind_of document) Model
   _ ← passed (option_map shape_error (shape_refusal document))
-  tree ← told tree_error (tree_of (rows_at (codes "affinity") document))
+  tree ← told tree_error (tree_in document)
   _ ← passed (kind_refusal kind tree)
   told layout_error (layout_at kind tree document)
 

@@ -6,10 +6,12 @@ use Rattle.std.specs.Prelude.{slice_get, codes}
 use Rattle.std.specs.List.{flat_map}
 use Rattle.toml.specs.Data.{Data}
 use Rattle.waff_model.specs.Awaits.{IsList}
-use Rattle.waff_model.specs.Layout.{Space, Hierarchy, IsLayout}
+use Rattle.waff_model.specs.Layout.{Space, Hierarchy, IsLayout, has_locks}
 use Rattle.waff_model.specs.Messages.{Arrivals, IsMessage, IsTrace, no_client, sizes_of}
 use Rattle.waff_model.specs.Names.{is_name}
+use Rattle.waff_model.specs.Tree as trees
 use Rattle.waff_model.specs.Tree.{Node, parent_of}
+use Rattle.waff_model.specs.declared.format.Format.TheVariants.{F3}
 use Rattle.waff_model.specs.declared.kind.Kind.{Kind}
 use Rattle.waff_model.specs.declared.kind.Kind.TheVariants.{Classical}
 use Rattle.waff_model.specs.Versions as versions
@@ -24,9 +26,9 @@ use Rattle.waff_parse.specs.Fields.{Field}
 use Rattle.waff_parse.specs.Refusals.{one}
 use Rattle.waff_parse.specs.Rows.{Record, records_of}
 use Rattle.waff_parse.specs.Texts.{blank, number_of, number_within, parts, semicolon}
-use Rattle.waff_read.specs.Affinities.{tree_of}
+use Rattle.waff_read.specs.Affinities.{tree_in}
 use Rattle.waff_read.specs.Awaits.{await_of}
-use Rattle.waff_read.specs.Documents.{document_of, rows_at}
+use Rattle.waff_read.specs.Documents.{document_of}
 use Rattle.waff_read.specs.Hierarchies.{hierarchy_of, kind_of, kind_refusal, layout_at}
 use Rattle.waff_read.specs.Messages.{Columns, columns_of, message_of, message_of_columns}
 use Rattle.waff_read.specs.Ops.{op_of}
@@ -226,7 +228,7 @@ pub record Describes (bytes : List ℕ) (layout : Hierarchy) : Type 0 where
   pub is_document : document_of bytes ≡ Some document
   pub is_kind : kind_of document ≡ Some kind
   pub is_shaped : shape_refusal document ≡ None
-  pub is_tree : tree_of (rows_at (codes "affinity") document) ≡ Ok tree
+  pub is_tree : tree_in document ≡ Ok tree
   pub fits : kind_refusal kind tree ≡ None
   pub is_layout : layout_at kind tree document ≡ Ok layout
 
@@ -240,3 +242,14 @@ ClassicalHasTwoLevels bytes layout =
     hierarchy_of bytes ≡ Ok layout → layout.kind ≡ Classical
     → (affinity : ℕ) → 0 < affinity → affinity < length layout.tree
     → parent_of layout.tree affinity ≡ Some 0
+
+-- the spaces of a hierarchy of another format than the third have no locks
+abbrev pub LocksAreOfFormat3 : List ℕ → Hierarchy → Type 0
+LocksAreOfFormat3 bytes layout =
+    hierarchy_of bytes ≡ Ok layout → layout.format ≢ F3 → has_locks layout.spaces ≡ false
+
+-- in one of the third no affinity is named by a hyphen, so that it tells a message of none
+abbrev pub HyphenIsNoAffinity : List ℕ → Hierarchy → Type 0
+HyphenIsNoAffinity bytes layout =
+    hierarchy_of bytes ≡ Ok layout → layout.format ≡ F3
+    → trees.number_of layout.tree (codes "-") ≡ None

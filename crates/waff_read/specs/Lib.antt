@@ -1,8 +1,9 @@
 pub mod Checks
 pub mod Documents
+pub mod Formats
+pub mod Spaces
 pub mod Shapes
 pub mod Affinities
-pub mod Spaces
 pub mod HierRefusals
 pub mod Hierarchies
 pub mod TraceFaults

@@ -6,25 +6,30 @@ ghost use Rattle.waff_parse.specs.Stopping.{Gives};
 ghost use Rattle.waff_model.specs.TreeRefusal.{refusal_of};
 ghost use Rattle.waff_read.specs.Checks.{passed};
 ghost use Rattle.waff_read.specs.Documents.{text_at};
-ghost use Rattle.waff_read.specs.Affinities.{name_at, place_of, node_in, tree_from, tree_of};
+ghost use Rattle.waff_read.specs.Affinities.{name_at, place_of, node_in, is_affinity_name};
+ghost use Rattle.waff_read.specs.Affinities.{tree_from, tree_of};
 
 use crate::document::text;
 use crate::names::Names;
 use std::alloc::Global;
 use toml::Value;
 use waff_model::limits::MAX_AFFINITIES;
-use waff_model::{AffinityId, Tree, TreeBuilder, TreeError};
+use waff_model::{AffinityId, Format, Tree, TreeBuilder, TreeError, is_name};
 use waff_parse::Stop;
 
 /// The tree of these rows; the first that is refused decides.
-pub(crate) fn read_tree(alloc: Global, rows: &[Value]) -> Result<Tree, Stop<TreeError>>
-    ensures { Gives (λ tree. tree) result (tree_of (map view rows.now)) }
+pub(crate) fn read_tree(
+    alloc: Global,
+    format: Format,
+    rows: &[Value],
+) -> Result<Tree, Stop<TreeError>>
+    ensures { Gives (λ tree. tree) result (tree_of format (map view rows.now)) }
 {
     if rows.is_empty() {
         return Err(Stop::Fault(TreeError::NoRoot));
     }
     let mut tree = TreeBuilder::new(alloc);
-    match add_rows(alloc, &mut tree, rows) {
+    match add_rows(alloc, format, &mut tree, rows) {
         Ok(()) => match tree.build() {
             Ok(tree) => Ok(tree),
             // Nothing but memory is refused to a builder that has a root.
@@ -35,12 +40,20 @@ pub(crate) fn read_tree(alloc: Global, rows: &[Value]) -> Result<Tree, Stop<Tree
 }
 
 /// Adds the affinities of these rows to a builder to which nothing was added.
-fn add_rows(alloc: Global, tree: &mut TreeBuilder, rows: &[Value]) -> Result<(), Stop<TreeError>>
+fn add_rows(
+    alloc: Global,
+    format: Format,
+    tree: &mut TreeBuilder,
+    rows: &[Value],
+) -> Result<(), Stop<TreeError>>
     requires { tree.old ≡ [] }
-    ensures { Gives (λ done. tree.new) result (tree_from [] (map view rows.now)) }
+    ensures { Gives (λ done. tree.new) result (tree_from format [] (map view rows.now)) }
 {
     let mut names = Names::new(alloc);
     for row in rows {
+        if !is_affinity_name(format, name_of(row)) {
+            return Err(Stop::Fault(TreeError::Name));
+        }
         add_row(&mut names, tree, row)?;
     }
     Ok(())
@@ -65,6 +78,13 @@ fn add_row(names: &mut Names, tree: &mut TreeBuilder, row: &Value) -> Result<(),
     }
     names.push(name)?;
     Ok(())
+}
+
+/// Whether an affinity may have this name.
+fn is_affinity_name(format: Format, name: &str) -> bool
+    ensures { result ≡ is_affinity_name format name.now }
+{
+    is_name(name) && !(format.may_lock() && name == "-")
 }
 
 /// The name of the affinity of a row.

@@ -27,6 +27,8 @@ pub enum Key {
     Unit,
     /// The owners of a map.
     To,
+    /// The locks of a space, in a format that has them.
+    Locks,
 }
 
 /// Why a hierarchy was refused. Where several hold, the first is answered.

@@ -1,17 +1,18 @@
 //! The reader of hierarchies.
 
-ghost use Rattle.std.specs.Prelude.{◌≡◌, ◌<◌, length, nat_lt, option_map, unwrap_or, ok_or, codes};
+ghost use Rattle.std.specs.Prelude.{◌≡◌, ◌<◌, length, nat_lt, option_map, unwrap_or, ok_or};
 ghost use Rattle.std.specs.Prelude.{IfOk};
 ghost use Rattle.toml.specs.View.{view};
 ghost use Rattle.waff_parse.specs.Refusals.{told};
 ghost use Rattle.waff_model.specs.LayoutOf.{layout_of};
 ghost use Rattle.waff_model.specs.Tree.{parent_of};
 ghost use Rattle.waff_read.specs.Checks.{passed};
-ghost use Rattle.waff_read.specs.Affinities.{tree_of};
-ghost use Rattle.waff_read.specs.Documents.{document_of, rows_at};
+ghost use Rattle.waff_read.specs.Affinities.{tree_in};
+ghost use Rattle.waff_read.specs.Documents.{document_of};
+ghost use Rattle.waff_read.specs.Formats.{format_of, format_numbered};
 ghost use Rattle.waff_read.specs.Shapes.{shape_refusal};
 ghost use Rattle.waff_read.specs.HierRefusals.{Reads, shape_error, tree_error, layout_error};
-ghost use Rattle.waff_read.specs.Hierarchies.{format_of, format_numbered, kind_of, kind_named};
+ghost use Rattle.waff_read.specs.Hierarchies.{kind_of, kind_named};
 ghost use Rattle.waff_read.specs.Hierarchies.{kind_refusal, third_level_of};
 ghost use Rattle.waff_read.specs.Hierarchies.{layout_at, layout_in, hierarchy_of};
 ghost use Rattle.waff_read.specs.Spaces.{spaces_in, maps_in};
@@ -75,7 +76,13 @@ pub fn read_format(document: &Value) -> Format
 fn format_numbered(number: i64) -> Format
     ensures { result ≡ format_numbered number }
 {
-    if number == 2 { Format::F2 } else { Format::F1 }
+    if number == 2 {
+        Format::F2
+    } else if number == 3 {
+        Format::F3
+    } else {
+        Format::F1
+    }
 }
 
 /// The kind that the document names as its model.
@@ -113,9 +120,9 @@ fn check_shape(document: &Value) -> Result<(), HierError>
 /// The tree of the document's affinities.
 fn read_affinities(alloc: Global, document: &Value) -> Result<Tree, HierError>
     ensures { Reads (λ tree. tree) result
-        (told tree_error (tree_of (rows_at (codes "affinity") (view document.now)))) }
+        (told tree_error (tree_in (view document.now))) }
 {
-    match read_tree(alloc, rows(document, "affinity")) {
+    match read_tree(alloc, read_format(document), rows(document, "affinity")) {
         Ok(tree) => Ok(tree),
         Err(Stop::Memory) => Err(HierError::Memory),
         Err(Stop::Fault(e)) => Err(HierError::Tree(e)),
@@ -178,7 +185,8 @@ fn read_rows(alloc: Global, document: &Value) -> Result<(Vec<SpaceSpec>, Vec<Map
     ensures spaces { IfOk result (λ rows. rows.0.items ≡ spaces_in (view document.now)) }
     ensures maps { IfOk result (λ rows. rows.1.items ≡ maps_in (view document.now)) }
 {
-    let spaces = read_spaces(alloc, rows(document, "space"))?;
+    let format = read_format(document);
+    let spaces = read_spaces(alloc, format, rows(document, "space"))?;
     match read_maps(alloc, rows(document, "map")) {
         Ok(maps) => Ok((spaces, maps)),
         Err(error) => Err(error),

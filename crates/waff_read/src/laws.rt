@@ -5,12 +5,14 @@ ghost use Rattle.std.specs.Prelude.{ℕ, List};
 ghost use Rattle.toml.specs.Data.{Data};
 ghost use Rattle.waff_model.specs.Layout.{Space, Hierarchy};
 ghost use Rattle.waff_model.specs.Messages.{Arrivals};
+ghost use Rattle.waff_model.specs.declared.format.Format.{Format};
 ghost use Rattle.waff_model.specs.declared.message.Message.{Message};
 ghost use Rattle.waff_model.specs.declared.message.Version.{Version};
 ghost use Rattle.waff_parse.specs.Rows.{Record};
 ghost use Rattle.waff_read.specs.Laws.{RecordIsExact, PiecesAreSingle, SpelledIsRead};
 ghost use Rattle.waff_read.specs.Laws.{SpelledTraceIsRead, LeastCheckDecides, TraceIsExact};
 ghost use Rattle.waff_read.specs.Laws.{FirstFaultDecides, HierarchyIsExact, ClassicalHasTwoLevels};
+ghost use Rattle.waff_read.specs.Laws.{LocksAreOfFormat3, HyphenIsNoAffinity};
 ghost use Rattle.waff_read.specs.Messages.{Columns};
 ghost use Rattle.waff_read.specs.Refused.{TreeIsExact, FirstAffinityDecides, FirstCheckDecides};
 ghost use Rattle.waff_read.specs.declared.place.Place.{Place};
@@ -70,16 +72,26 @@ pub fn classical_has_two_levels()
     ensures { (bytes : List ℕ) (layout : Hierarchy) → ClassicalHasTwoLevels bytes layout }
 {}
 
+/// What a hierarchy of format 1 or 2 names as locks counts for nothing.
+pub fn locks_are_of_format_3()
+    ensures { (bytes : List ℕ) (layout : Hierarchy) → LocksAreOfFormat3 bytes layout }
+{}
+
+/// In a hierarchy of format 3 a hyphen names no affinity.
+pub fn hyphen_is_no_affinity()
+    ensures { (bytes : List ℕ) (layout : Hierarchy) → HyphenIsNoAffinity bytes layout }
+{}
+
 /// Rows are read as a tree exactly where there is one and each is an affinity, whose parent is one
 /// of those before it; and the affinities of the tree are theirs.
 pub fn tree_is_exact()
-    ensures { (rows : List Data) → TreeIsExact rows }
+    ensures { (format : Format) (rows : List Data) → TreeIsExact format rows }
 {}
 
 /// The first row that is no affinity decides, and of the checks that hold of it the one of least
 /// number.
 pub fn first_affinity_decides()
-    ensures { (rows : List Data) → FirstAffinityDecides rows }
+    ensures { (format : Format) (rows : List Data) → FirstAffinityDecides format rows }
 {}
 
 /// A hierarchy is refused for an error exactly where its check holds and none before it.

@@ -13,10 +13,10 @@
 //!   is within the limits.
 //!
 //! What the files stand for is defined in `specs/`. Of a hierarchy: `Hierarchies` (whole files),
-//! over `Documents`, `Shapes`, `Affinities` and `Spaces`. Of a trace: `Traces` (whole texts), over
-//! `Messages` (records at their `Places`), `Awaits` (lists) and `Pieces`, which are operations
-//! (`Ops`) or `Ranges` as they are spelled, with `TraceFaults` (the order of the refusals) and
-//! `Plain` (records without quotes).
+//! over `Documents`, `Formats`, `Shapes`, `Affinities` and `Spaces`. Of a trace: `Traces` (whole
+//! texts), over `Messages` (records at their `Places`), `Awaits` (lists) and `Pieces`, which are
+//! operations (`Ops`) or `Ranges` as they are spelled, with `TraceFaults` (the order of the
+//! refusals) and `Plain` (records without quotes).
 //!
 //! A file is read exactly where the format accepts it, as what is written there. Else the refusal
 //! is the one that the format names: of the first record with a fault, and of its first check that

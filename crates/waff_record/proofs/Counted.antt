@@ -1,7 +1,7 @@
 -- A run tells a turn of each message.
-use Rattle.std.proofs.Common.{◌≡◌, ℕ, List, [], ◌∷◌, length, map, replicate, arith, sym, ◌∙◌, ap}
+use Rattle.std.proofs.Common.{◌≡◌, ℕ, List, [], ◌∷◌, length, sym, ◌∙◌, ap}
 use Rattle.std.proofs.lemmas.List.{length-map, length-replicate}
-use Rattle.waff_line.specs.Machine.{Course, Runs, State, Steps, Turn as Seen, begun_on, ended_at, no_turn, opening, told}
+use Rattle.waff_line.specs.Machine.{Course, Runs, State, Steps, Turn as Seen, no_turn, opening}
 use Rattle.waff_line.specs.Noted.{shown}
 use Rattle.waff_line.specs.Turns.{AreRunTurns}
 use Rattle.waff_line.specs.declared.event.Event.{Event}

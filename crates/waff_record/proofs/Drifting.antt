@@ -1,9 +1,9 @@
 -- Figures of turns, one turn after another.
-use Rattle.std.proofs.Common.{◌≡◌, ℕ, ◌+◌, ◌-◌, ◌<◌, ◌≤◌, max, Bool, nat_lt, if◌then◌else◌, inl, inr, List, ◌∷◌, ◌++◌, [], length, map, take, get_or, arith, refl, sym, ◌∙◌, ap}
+use Rattle.std.proofs.Common.{◌≡◌, ℕ, ◌+◌, ◌-◌, ◌<◌, max, Bool, nat_lt, if◌then◌else◌, inl, inr, List, length, map, take, get_or, arith, refl, ◌∙◌, ap}
 use Rattle.std.proofs.lemmas.Bool.{cases_Bool}
 use Rattle.std.proofs.lemmas.List.{map_push, take_more}
 use Rattle.std.proofs.lemmas.List.Recursion.{max_push}
-use Rattle.std.proofs.lemmas.List.Sums.{count_by-le-length, count_by_more_no, count_by_more_yes}
+use Rattle.std.proofs.lemmas.List.Sums.{count_by_more_no, count_by_more_yes}
 use Rattle.waff_plan.specs.Work.{greatest}
 use Rattle.waff_line.specs.declared.turn.Turn.{Turn}
 use Rattle.waff_record.specs.Drift.{last_finish, short_turns}

@@ -3,9 +3,8 @@ use Rattle.std.proofs.Common.{◌≡◌, ◌≢◌, ℕ, ◌+◌, ◌-◌, ◌/�
 use Rattle.std.proofs.lemmas.Bool.{cases_eq}
 use Rattle.std.proofs.lemmas.List.{get_or-set_other, get_or-set_same}
 use Rattle.std.proofs.lemmas.List.Elements.{Contains-append_left, Contains-push, Contains-push_cases}
-use Rattle.waff_model.specs.Tree.{Excludes}
-use Rattle.waff_assign.specs.Order.{affinity_of}
-use Rattle.waff_plan.specs.Latest.{IsFound}
+use Rattle.waff_assign.specs.Held.{ExcludeEachOther}
+use Rattle.waff_assign.specs.Order.{held_of}
 use Rattle.waff_plan.specs.Table.{IsLatestExcluding}
 use Rattle.waff_plan.specs.Work.{Work, IsAmongFirst, finish_of, issue_of}
 use Rattle.waff_plan.specs.declared.latest.Latest.{Latest}
@@ -104,7 +103,7 @@ module _ (course : Course) (ticks : Work) (tick : ℕ) (turns : List Turn) (is :
   module _ (m : ℕ) (number : IsAmongFirst course.work.count m) (work : Work) (start : ℕ → ℕ) (noted : List ℕ) (before : AreBefore course.work.count turns m noted) where
     -- a noted message that excludes message m, or ran on its worker, goes before it
     goes : (i : ℕ) → Contains noted i
-        → Excludes course.tree (affinity_of course.assigned i) (affinity_of course.assigned m) ⊎ ((turn_at turns i).worker ≡ (turn_at turns m).worker)
+        → ExcludeEachOther course.tree (held_of course.assigned i) (held_of course.assigned m) ⊎ ((turn_at turns i).worker ≡ (turn_at turns m).worker)
         → GoesBefore course turns i m
     goes i there held = record {
       number = before.number i there;
@@ -120,10 +119,10 @@ module _ (course : Course) (ticks : Work) (tick : ℕ) (turns : List Turn) (is :
     }
 
     abbrev IsLatest : Option Latest → Type 0
-    IsLatest latest = IsLatestExcluding course.tree course.assigned (finish_of work start) noted (affinity_of course.assigned m) latest
+    IsLatest latest = IsLatestExcluding course.tree course.assigned (finish_of work start) noted m latest
 
     after_latest : (latest : Option Latest) (from s : ℕ) → StartsFrom latest from s → IsLatest latest → (i : ℕ) → Contains noted i
-        → Excludes course.tree (affinity_of course.assigned i) (affinity_of course.assigned m) → finish_of work start i ≤ s
+        → ExcludeEachOther course.tree (held_of course.assigned i) (held_of course.assigned m) → finish_of work start i ≤ s
     after_latest None from s starts found i there excludes = absurd (found i (there, excludes))
     after_latest (Some l) from s starts found i there excludes =
         let late = found.number.latest i (there, excludes) in

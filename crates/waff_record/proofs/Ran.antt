@@ -1,9 +1,9 @@
 -- What the turns of a run say, message by message.
 use Rattle.std.proofs.Common.{◌≡◌, ◌≢◌, ℕ, zero, suc, ◌-◌, ◌<◌, ◌≤◌, inl, inr, List, [], ◌∷◌, length, map, get_or, arith, refl, sym, ◌∙◌, ap, subst}
-use Rattle.waff_model.specs.Tree.{Excludes}
 use Rattle.waff_model.specs.declared.message.Version.{Version}
 use Rattle.waff_model.specs.declared.message.Version.TheVariants.{V1, V2, V3, V4}
-use Rattle.waff_assign.specs.Order.{affinity_of}
+use Rattle.waff_assign.specs.Held.{ExcludeEachOther}
+use Rattle.waff_assign.specs.Order.{held_of}
 use Rattle.waff_plan.specs.Issues.{IsServedBefore}
 use Rattle.waff_plan.specs.Obeys.{AwaitsEarlier}
 use Rattle.waff_plan.specs.Serving.{served_before}
@@ -66,7 +66,7 @@ module _ (course : Course) (turns : List Turn) (ran : AreRunTurns course turns) 
 
   -- and of two that exclude each other
   pub ran_apart : length course.assigned ≡ course.work.count → (i j : ℕ) → i ≢ j → IsAmongFirst course.work.count i → IsAmongFirst course.work.count j
-      → Excludes course.tree (affinity_of course.assigned i) (affinity_of course.assigned j)
+      → ExcludeEachOther course.tree (held_of course.assigned i) (held_of course.assigned j)
       → (turn_at turns i).start ≤ (turn_at turns j).start → (turn_at turns i).finish ≤ (turn_at turns j).start
   ran_apart many i j unlike first second excludes sooner =
       let i_start = start_is i first.from in

@@ -1,13 +1,12 @@
 -- One message of a run after another is told, in the order in which they began.
-use Rattle.std.proofs.Common.{◌≡◌, ℕ, ◌+◌, ◌-◌, ◌/◌, ◌<◌, ◌≤◌, max, List, ◌∷◌, ◌++◌, length, map, Contains, Option, arith, refl, sym, ◌∙◌, ap, subst}
+use Rattle.std.proofs.Common.{◌≡◌, ℕ, ◌+◌, ◌-◌, ◌/◌, ◌<◌, ◌≤◌, max, List, length, map, Contains, Option, arith, refl, sym, ◌∙◌, ap, subst}
 use Rattle.std.proofs.Math.ListN.{get_or-map}
-use Rattle.waff_assign.specs.Order.{affinity_of}
 use Rattle.waff_plan.specs.ByStart.{AreByStart, started_at}
 use Rattle.waff_plan.specs.Obeys.{AwaitsEarlier}
 use Rattle.waff_plan.specs.Table.{IsLatestExcluding}
 use Rattle.waff_plan.specs.Timetable.{Timetable, starts_in, timings_of, with_turn, work_in}
 use Rattle.waff_plan.specs.Timing.{start_of, work_of}
-use Rattle.waff_plan.specs.Work.{Work, IsAmongFirst, finish_of, issue_of}
+use Rattle.waff_plan.specs.Work.{IsAmongFirst, finish_of, issue_of}
 use Rattle.waff_plan.specs.declared.latest.Latest.{Latest}
 use Rattle.waff_plan.specs.declared.sequence.Started.{Started}
 use Rattle.waff_plan.specs.declared.timing.Timing.{Timing}
@@ -25,7 +24,7 @@ use Rattle.waff_record.proofs.Counted.{turns_of_all}
 use Rattle.waff_record.proofs.Pass.{IsFreeFrom, StartsFrom}
 use Rattle.waff_record.proofs.Placing.{count_stays, starts_stay}
 use Rattle.waff_record.proofs.Ran.{ran_there}
-use Rattle.waff_record.proofs.Walking.{all_told, finishes_stay, here_finishes, noted_stay, other_costs, told_more}
+use Rattle.waff_record.proofs.Walking.{all_told, here_finishes, noted_stay, other_costs, told_more}
 
 -- the start of message n in a list of the starts of turns
 abbrev begins : List Turn → ℕ → ℕ
@@ -116,7 +115,7 @@ module _ (run : RunTurns) (ran : HasRun run) (began : List Started) (begun : Are
           plan costs long count told start cost))
 
       pub new_told : (turn : Turn) → turn ≡ turn_at run.turns.now m → (latest : Option Latest)
-          → IsLatestExcluding run.case.tree.now run.case.assigned.now (finish_of (work_in plan) (starts_in plan)) noted (affinity_of run.case.assigned.now m) latest
+          → IsLatestExcluding run.case.tree.now run.case.assigned.now (finish_of (work_in plan) (starts_in plan)) noted m latest
           → (free : ℕ) → IsFreeFrom run.turns.now (finish_of (work_in plan) (starts_in plan)) noted (turn_at run.turns.now m).worker free
           → (issue : ℕ) → issue ≡ issue_of (work_in plan) (starts_in plan) m
           → StartsFrom latest (max (turn.start / run.tick) (max issue free)) start
@@ -132,7 +131,7 @@ module _ (run : RunTurns) (ran : HasRun run) (began : List Started) (begun : Are
           subst (λ (p : Timetable). AreTold p (place + 1)) (sym next_is)
           (told_more (course_run run) (ticks_run run) run.tick run.turns.now is_run ran began (begins run.turns.now) (begins_is run.turns.now) in_order place within noted are_noted
           plan costs long count told start cost latest
-          (subst (λ k. IsLatestExcluding run.case.tree.now run.case.assigned.now (finish_of work starting) noted (affinity_of run.case.assigned.now k) latest) here found)
+          (subst (λ k. IsLatestExcluding run.case.tree.now run.case.assigned.now (finish_of work starting) noted k latest) here found)
           free (subst (λ k. IsFreeFrom run.turns.now (finish_of work starting) noted (turn_at run.turns.now k).worker free) here is_free)
           (max ((turn_at run.turns.now at).start / run.tick) (max (issue_of work starting at) free)) refl
           (subst (λ a. StartsFrom latest a start) from starts)

@@ -2,17 +2,17 @@
 use Rattle.std.proofs.Common.{◌≡◌, ℕ, ◌-◌, ◌<◌, ◌≤◌, ◌⊎◌, inl, inr, true, List, length, arith, sym, ◌∙◌, ap, subst}
 use Rattle.std.proofs.lemmas.Bool.{cases_lt}
 use Rattle.std.proofs.lemmas.Option.{same_Some}
-use Rattle.waff_model.specs.Tree.{Excludes}
 use Rattle.waff_model.specs.declared.message.Version.{Version}
 use Rattle.waff_model.specs.declared.message.Version.TheVariants.{V1, V2, V3, V4}
-use Rattle.waff_assign.specs.Order.{IsOrdered, affinity_of}
+use Rattle.waff_assign.specs.Held.{ExcludeEachOther}
+use Rattle.waff_assign.specs.Order.{IsOrdered, held_of}
+use Rattle.waff_assign.proofs.Holding.{exclude_sym}
 use Rattle.waff_plan.specs.Apart.{AreApart}
 use Rattle.waff_plan.specs.Obeys.{AwaitsEarlier}
 use Rattle.waff_plan.specs.Serving.{served_before}
 use Rattle.waff_plan.specs.Work.{Work, IsAmongFirst, IsNumber, finish_of}
 use Rattle.waff_plan.specs.Workers.{running, runs_at}
 use Rattle.waff_plan.proofs.ApartLaws.{apart_where_finished, turned}
-use Rattle.waff_plan.proofs.Exclusion.{excludes_back}
 use Rattle.waff_line.specs.Machine.{Course}
 use Rattle.waff_line.specs.Turns.{AreRunTurns}
 use Rattle.waff_line.specs.declared.turn.Turn.{Turn}
@@ -35,7 +35,7 @@ module _ (course : Course) (ticks : Work) (tick : ℕ) (turns : List Turn) (is :
 
   -- of two messages one of which ended before the other began, and which exclude each other or ran on one worker, it goes before the other
   pub goes_before : (i j : ℕ) → IsAmongFirst course.work.count i → (turn_at turns i).finish ≤ (turn_at turns j).start
-      → Excludes course.tree (affinity_of course.assigned i) (affinity_of course.assigned j) ⊎ ((turn_at turns i).worker ≡ (turn_at turns j).worker)
+      → ExcludeEachOther course.tree (held_of course.assigned i) (held_of course.assigned j) ⊎ ((turn_at turns i).worker ≡ (turn_at turns j).worker)
       → GoesBefore course turns i j
   goes_before i j number done held = record {
     number = number;
@@ -45,7 +45,7 @@ module _ (course : Course) (ticks : Work) (tick : ℕ) (turns : List Turn) (is :
 
   ordered_parts : (i j : ℕ) → IsOrdered course.tree course.assigned i j
       → IsAmongFirst course.work.count i × IsAmongFirst course.work.count j
-      × Excludes course.tree (affinity_of course.assigned i) (affinity_of course.assigned j)
+      × ExcludeEachOther course.tree (held_of course.assigned i) (held_of course.assigned j)
   ordered_parts i j pair =
       let many = many_is in (
         record { from = pair.from; to = omega (arith, pair.earlier, pair.to, many) },
@@ -56,7 +56,7 @@ module _ (course : Course) (ticks : Work) (tick : ℕ) (turns : List Turn) (is :
   -- the numbers of a pair in the order of the run, and that they exclude each other
   pair_parts : (version : Version) (i j : ℕ) → served_before version course.tree course.assigned (measured_by course turns) (λ n. (turn_at turns n).start) i j
       → IsAmongFirst course.work.count i × IsAmongFirst course.work.count j
-      × Excludes course.tree (affinity_of course.assigned i) (affinity_of course.assigned j)
+      × ExcludeEachOther course.tree (held_of course.assigned i) (held_of course.assigned j)
   pair_parts V1 i j pair = ordered_parts i j pair
   pair_parts V2 i j pair = ordered_parts i j pair
   pair_parts V3 i j pair = (pair.first, pair.second, pair.excludes)
@@ -84,7 +84,7 @@ module _ (course : Course) (ticks : Work) (tick : ℕ) (turns : List Turn) (is :
         let less = pair.ordered.earlier in
         elim (cases_lt (turn_at turns j).start (turn_at turns i).start) [
           | inl later ↦
-              let excludes = excludes_back course.tree (affinity_of course.assigned i) (affinity_of course.assigned j) parts.2 in
+              let excludes = exclude_sym course.tree (held_of course.assigned i) (held_of course.assigned j) parts.2 in
               let done = ran_apart course turns ran many_is j i (λ same. omega (arith, same, less)) parts.1 parts.0 excludes (omega (arith, later)) in
               apart_where_finished work start j i (finished j i parts.0 (goes_before j i parts.1 done (inl excludes))) (turned work start i j pair.together)
           | inr sooner ↦

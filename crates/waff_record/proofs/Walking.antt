@@ -1,16 +1,15 @@
 -- The messages of a run in the order in which they began, each told after those before it.
-use Rattle.std.proofs.Common.{◌≡◌, ◌≢◌, ℕ, ◌+◌, ◌-◌, ◌/◌, ◌<◌, ◌≤◌, inl, inr, max, List, ◌∷◌, ◌++◌, length, Contains, Option, arith, refl, sym, ◌∙◌, ap, subst}
+use Rattle.std.proofs.Common.{◌≡◌, ◌≢◌, ℕ, ◌+◌, ◌/◌, ◌<◌, ◌≤◌, inl, inr, max, List, length, Contains, Option, arith, sym, ◌∙◌, ap, subst}
 use Rattle.std.proofs.lemmas.Bool.{cases_eq, cases_lt}
 use Rattle.std.proofs.lemmas.List.{get_or_default}
 use Rattle.waff_plan.specs.ByStart.{AreByStart, started_at, started_of}
 use Rattle.waff_plan.specs.Table.{IsLatestExcluding}
 use Rattle.waff_plan.specs.Timetable.{Timetable, starts_in, with_turn, work_in}
-use Rattle.waff_plan.specs.Work.{Work, IsAmongFirst, IsNumber, finish_of, issue_of}
+use Rattle.waff_plan.specs.Work.{Work, IsAmongFirst, finish_of, issue_of}
 use Rattle.waff_plan.specs.declared.latest.Latest.{Latest}
 use Rattle.waff_plan.specs.declared.sequence.Started.{Started}
 use Rattle.waff_plan.proofs.ApartLaws.{number_here}
 use Rattle.waff_plan.proofs.Noted.{AreNoted}
-use Rattle.waff_assign.specs.Order.{affinity_of}
 use Rattle.waff_line.specs.Machine.{Course}
 use Rattle.waff_line.specs.Turns.{AreRunTurns}
 use Rattle.waff_line.specs.declared.turn.Turn.{Turn}
@@ -93,7 +92,7 @@ module _ (course : Course) (ticks : Work) (tick : ℕ) (turns : List Turn) (is :
       here_finishes = finish_is plan m start cost here long
 
       module _ (latest : Option Latest)
-          (found : IsLatestExcluding course.tree course.assigned (finish_of (work_in plan) (starts_in plan)) noted (affinity_of course.assigned m) latest)
+          (found : IsLatestExcluding course.tree course.assigned (finish_of (work_in plan) (starts_in plan)) noted m latest)
           (free : ℕ) (is_free : IsFreeFrom turns (finish_of (work_in plan) (starts_in plan)) noted (turn_at turns m).worker free)
           (from : ℕ) (from_is : from ≡ max ((turn_at turns m).start / tick) (max (issue_of (work_in plan) (starts_in plan) m) free))
           (starts : StartsFrom latest from start) (finishes : start + cost ≡ max ((turn_at turns m).finish / tick) (start + 1)) where

@@ -42,7 +42,7 @@ pub record TellsTurns (course : Course) (turns : List Turn) (work : Work) (start
   pub seated : AreOneAtATime work start (worker_of turns) course.workers
   pub apart : AreApart (IsOrdered course.tree course.assigned) work start
 
--- a course of a run: each message awaits earlier ones or none, and each has an affinity
+-- a course of a run: each message awaits earlier ones or none, and of each it is known what it holds
 pub record IsRunCourse (course : Course) (ticks : Work) (tick : ℕ) : Type 0 where
   pub work_is : course.work ≡ scaled tick ticks
   pub earlier : AwaitsEarlier ticks

@@ -1,5 +1,4 @@
 -- A run whose messages have all ended, and what it is of.
-use Rattle.std.specs.Prelude.{ℕ}
 use Rattle.waff_assign.specs.Case.{instance_of}
 use Rattle.waff_plan.specs.Timetable.{Timetable, starts_in, work_in, work_of_messages}
 use Rattle.waff_plan.specs.Work.{Work}

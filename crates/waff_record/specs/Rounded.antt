@@ -1,7 +1,7 @@
 -- What is told of the turns of a run, whose times are nanoseconds: their rounding to ticks.
 use Rattle.std.specs.Prelude.{◌≡◌, ◌⊎◌, ℕ, ◌+◌, ◌/◌, ◌<◌, ◌≤◌, max, List}
-use Rattle.waff_model.specs.Tree.{Excludes}
-use Rattle.waff_assign.specs.Order.{affinity_of}
+use Rattle.waff_assign.specs.Held.{ExcludeEachOther}
+use Rattle.waff_assign.specs.Order.{held_of}
 use Rattle.waff_plan.specs.Work.{Work, IsAmongFirst, IsNumber, finish_of, issue_of}
 use Rattle.waff_line.specs.Machine.{Course}
 use Rattle.waff_line.specs.declared.turn.Turn.{Turn}
@@ -11,7 +11,7 @@ use Rattle.waff_record.specs.Turns.{turn_at}
 pub record GoesBefore (course : Course) (turns : List Turn) (i m : ℕ) : Type 0 where
   pub number : IsAmongFirst course.work.count i
   pub sooner : (turn_at turns i).start < (turn_at turns m).start
-  pub held : Excludes course.tree (affinity_of course.assigned i) (affinity_of course.assigned m)
+  pub held : ExcludeEachOther course.tree (held_of course.assigned i) (held_of course.assigned m)
       ⊎ ((turn_at turns i).worker ≡ (turn_at turns m).worker)
 
 -- message m may be told to start at tick t: that is not before the tick in which it began, nor before it is issued and

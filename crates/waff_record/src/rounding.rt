@@ -3,10 +3,8 @@
 ghost use Rattle.std.specs.Prelude.{◌≡◌, ◌≤◌, ◌<◌, ◌+◌, ◌-◌, ◌/◌, max, length, map, replicate, slice_index};
 ghost use Rattle.std.specs.Prelude.{IfOk, IfSome, MatchOption};
 ghost use Rattle.waff_model.specs.Numbers.{IsAmongFirst};
-ghost use Rattle.waff_model.specs.Preorder.{AreNested};
 ghost use Rattle.waff_model.specs.declared.limits.TheConstants.{MAX_COST, MAX_MESSAGES};
 ghost use Rattle.waff_plan.specs.ByStart.{started_at};
-ghost use Rattle.waff_plan.specs.Table.{message_span};
 ghost use Rattle.waff_record.specs.Begun.{IsBegun};
 ghost use Rattle.waff_record.specs.Ran.{HasRun, IsToldOf};
 ghost use Rattle.waff_record.specs.Turns.{turn_at};
@@ -15,9 +13,7 @@ ghost use Rattle.waff_record.specs.declared.rounding.TheConstants.{MAX_RUN};
 use crate::fault::RecordError;
 use crate::turns::RunTurns;
 use std::alloc::{AllocError, Global};
-use waff_assign::Case;
 use waff_line::Turn;
-use waff_model::Span;
 use waff_model::limits::{MAX_COST, MAX_TICK, MAX_WORKERS};
 use waff_plan::{Latest, Plan, Started, Table, by_tick};
 
@@ -43,23 +39,21 @@ pub fn rounded(alloc: Global, run: &RunTurns<'_>) -> Result<Plan, RecordError>
     let mut plan = Plan::unstarted(alloc, run.case.trace)?;
     let count = plan.len();
     let began = by_begin(alloc, run.turns)?;
-    let mut table = Table::new(alloc, run.case.tree.len() as usize)?;
+    let mut table = Table::new(alloc, run.case.tree, run.case.assigned)?;
     let mut free = no_seats(alloc, run.workers)?;
-    let spans = run.case.tree.spans();
     for place in 0..count {
         let m = number_at(&began, place);
         let turn = turn_at(run.turns, m);
-        let span = span_of(&run.case, spans, m);
         let issue = plan.issue(m);
         let rest = free_from(&free, turn.worker);
-        let latest = table.latest(span);
+        let latest = table.latest(m);
         let Some(told) = told_of(turn, run.tick, issue, rest, latest) else {
             return Err(RecordError::Tick(m));
         };
         plan.set_turn(m, told.start, told.cost);
         free[turn.worker as usize - 1] = told.finish;
         let finish = told.finish;
-        table.note(span, Latest { finish, number: m });
+        table.note(Latest { finish, number: m });
     }
     Ok(plan)
 }
@@ -101,17 +95,6 @@ fn turn_at<'a>(turns: &'a [Turn], m: u32) -> &'a Turn
     ensures { result.now ≡ turn_at turns.now m }
 {
     &turns[m as usize - 1]
-}
-
-/// The span of the affinity of message `m`.
-fn span_of(case: &Case<'_>, spans: &[Span], m: u32) -> Span
-    requires number { IsAmongFirst (length case.now.assigned.now) m }
-    requires nested { AreNested case.now.tree.now spans.now }
-    ensures span { result ≡ message_span spans.now case.now.assigned.now m }
-    ensures forward { result.first < result.end }
-    ensures within { result.end ≤ length case.now.tree.now }
-{
-    spans[case.assigned.of(m).0 as usize]
 }
 
 /// The tick from which on a worker is free.

@@ -2,6 +2,7 @@ mod Planned
 mod Reached
 mod Rows
 mod Lying
+mod Sharing
 mod Ending
 mod Listing
 mod Ones

@@ -7,16 +7,21 @@ use Rattle.std.proofs.lemmas.List.Sums.{position_or_len_is}
 use Rattle.std.proofs.lemmas.Nat.{mod_below, mul-le, row_fits, same_from_place}
 use Rattle.std.proofs.lemmas.Option.{get_or_from_slice_get, slice_get-get_or}
 use Rattle.waff_model.specs.declared.cell.Cell.{Cell}
-use Rattle.waff_model.specs.Layout.{Hierarchy, Space, IsCell, IsLayout, owner_of, owners_at, unit_at}
+use Rattle.waff_model.specs.Layout.{Hierarchy, Space, IsCell, IsLayout, IsLocked, locking_of, owner_of, owners_at, unit_at}
 use Rattle.waff_model.specs.Cells.{cells_of}
 use Rattle.waff_model.specs.Tree.{AtOrAbove, Excludes}
 use Rattle.waff_model.specs.declared.op.Op.{Op}
-use Rattle.waff_assign.specs.Lowest.{Covers, IsInFootprint}
+use Rattle.waff_model.specs.declared.locking.Locking.TheVariants.{Unlocked}
+use Rattle.waff_model.specs.declared.message.Message.{Message}
+use Rattle.waff_assign.specs.Held.{ExcludeEachOther, Held}
+use Rattle.waff_assign.specs.Lowest.{Covers, IsAffinityOf, IsInFootprint, IsUnlockedAmong}
+use Rattle.waff_assign.specs.Order.{affinity_of, held_of}
+use Rattle.waff_assign.proofs.Holding.{affinities_do}
 use Rattle.std.proofs.lemmas.List.Elements.{All-contains}
 use Rattle.waff_model.proofs.OwnerLemmas.{space_below}
 use Rattle.waff_model.proofs.TreeLemmas.{comparable}
 use Rattle.waff_run.specs.Places.{Placing, Striped, files_of, first_at, has_file, place_of, placing_of, striped_from}
-use Rattle.waff_run.specs.PlaceLaws.{AreApart, PlacesAreFound, lies}
+use Rattle.waff_run.specs.PlaceLaws.{AreApart, MayRunTogether, PlacesAreFound, lies}
 use Rattle.waff_run.specs.declared.places.Spot.{Spot}
 use Rattle.waff_run.proofs.Rows.{IsMapped, files_fewer, files_more, files_within, length-striped, lies_in, mapped, row_at, row_there, same_file}
 
@@ -118,16 +123,49 @@ module _ (layout : Hierarchy) (bytes : ℕ) (is : IsLayout layout) where
         | inr (inr last) ↦ inr (first_ends other one is_other is_one last)
       ]
 
-  -- affinities that cover a cell each of one file exclude each other
+  -- all cells of one file have locks, or none
+  one_locking : (one other : Cell) → IsCell layout.spaces one → IsCell layout.spaces other → (lies layout bytes one).file ≡ (lies layout bytes other).file
+      → locking_of layout.spaces one ≡ locking_of layout.spaces other
+  one_locking one other is_one is_other same =
+      ap (λ s. unwrap_or (option_map (λ (space : Space). space.locks) (slice_get layout.spaces s)) Unlocked) (one_place one other is_one is_other same).0
+
+  -- affinities that cover a cell without a lock each of one file exclude each other
   pub no_common_file : (a b : ℕ) (ops others : List Op) → All (IsCell layout.spaces) (cells_of ops) → All (IsCell layout.spaces) (cells_of others)
-      → Covers layout (IsInFootprint ops) a → Covers layout (IsInFootprint others) b → ¬ Excludes layout.tree a b
-      → (one other : Cell) → IsInFootprint ops one → IsInFootprint others other → (lies layout bytes one).file ≢ (lies layout bytes other).file
-  no_common_file a b ops others cells more covers covers_more free one other has has_more same =
+      → Covers layout (IsUnlockedAmong layout (cells_of ops)) a → Covers layout (IsUnlockedAmong layout (cells_of others)) b → ¬ Excludes layout.tree a b
+      → (one other : Cell) → IsInFootprint ops one → IsInFootprint others other → ¬ IsLocked layout.spaces one
+      → (lies layout bytes one).file ≢ (lies layout bytes other).file
+  no_common_file a b ops others cells more covers covers_more free one other has has_more unlocked same =
       let is_one = All-contains (IsCell layout.spaces) (cells_of ops) one cells has in
       let is_other = All-contains (IsCell layout.spaces) (cells_of others) other more has_more in
       let owner = one_owner one other is_one is_other same in
+      let locking = one_locking one other is_one is_other same in
       free (comparable layout.tree a b (owner_of layout.spaces other)
-      (subst (λ o. AtOrAbove layout.tree a o) owner (covers one has)) (covers_more other has_more))
+      (subst (λ o. AtOrAbove layout.tree a o) owner (covers one (has, unlocked)))
+      (covers_more other (has_more, λ locked. unlocked (λ none. locked (sym locking ∙ none)))))
+
+  -- and so do messages that name such cells
+  by_affinities : (ops others : List Op) (a b : Option ℕ) (held held_too : Held) → held.affinity ≡ a → held_too.affinity ≡ b
+      → All (IsCell layout.spaces) (cells_of ops) → All (IsCell layout.spaces) (cells_of others)
+      → IsAffinityOf layout ops a → IsAffinityOf layout others b → ¬ ExcludeEachOther layout.tree held held_too
+      → (one other : Cell) → IsInFootprint ops one → IsInFootprint others other → ¬ IsLocked layout.spaces one
+      → (lies layout bytes one).file ≢ (lies layout bytes other).file
+  by_affinities ops others None b held held_too is is_too cells more all lowest free one other has has_more unlocked same = unlocked (all one has)
+  by_affinities ops others (Some a) None held held_too is is_too cells more lowest all free one other has has_more unlocked same =
+      let is_one = All-contains (IsCell layout.spaces) (cells_of ops) one cells has in
+      let is_other = All-contains (IsCell layout.spaces) (cells_of others) other more has_more in
+      unlocked (λ none. all other has_more (sym (one_locking one other is_one is_other same) ∙ none))
+  by_affinities ops others (Some a) (Some b) held held_too is is_too cells more lowest lowest_too free one other has has_more unlocked same =
+      no_common_file a b ops others cells more lowest.1.covers lowest_too.1.covers
+      (λ excludes. free (affinities_do layout.tree held held_too a b is is_too excludes)) one other has has_more unlocked same
+
+  pub no_file_of_both : (messages : List Message) (assigned : List Held) (i j : ℕ) (first second : Message)
+      → MayRunTogether layout messages assigned i j first second
+      → All (IsCell layout.spaces) (cells_of first.ops) → All (IsCell layout.spaces) (cells_of second.ops)
+      → (one other : Cell) → IsInFootprint first.ops one → IsInFootprint second.ops other → ¬ IsLocked layout.spaces one
+      → (lies layout bytes one).file ≢ (lies layout bytes other).file
+  no_file_of_both messages assigned i j first second may cells more =
+      by_affinities first.ops second.ops (affinity_of assigned i) (affinity_of assigned j) (held_of assigned i) (held_of assigned j) refl refl cells more
+      (may.assignment.each i first may.from may.at).affinity (may.assignment.each j second may.from_too may.at_too).affinity may.free
 
 -- the file for a place of the map of space s is no file of the spaces before it, and is one of s
 module _ (spaces : List Space) (s p : ℕ) (inside : p < owners_at spaces s) (within : s < length spaces) where

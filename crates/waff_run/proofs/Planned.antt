@@ -3,6 +3,7 @@ use Rattle.std.proofs.Common.{◌≡◌, ℕ, List, length, sym}
 use Rattle.waff_model.specs.Tree.{Node}
 use Rattle.waff_model.specs.declared.message.Version.{Version}
 use Rattle.waff_model.specs.declared.message.Version.TheVariants.{V1, V2, V3, V4}
+use Rattle.waff_assign.specs.Held.{Held}
 use Rattle.waff_assign.specs.Order.{IsOrdered}
 use Rattle.waff_plan.specs.Apart.{AreApart}
 use Rattle.waff_plan.specs.Obeys.{EachRuns, Obeys}
@@ -25,7 +26,7 @@ pub record AreLaws (course : Course) : Type 0 where
   pub once : RunsEachOnce course
 
 -- in the order of service no two messages that exclude each other run at a common tick
-apart : (version : Version) (tree : List Node) (assigned : List ℕ) (work : Work) (start : ℕ → ℕ) → length assigned ≡ work.count → EachRuns work
+apart : (version : Version) (tree : List Node) (assigned : List Held) (work : Work) (start : ℕ → ℕ) → length assigned ≡ work.count → EachRuns work
     → Obeys (served_before version tree assigned work start) work start → AreApart (IsOrdered tree assigned) work start
 apart V1 tree assigned work start long runs obeys = λ i j pair. apart_where_finished work start i j (obeys.ordered i j pair.ordered) pair.together
 apart V2 tree assigned work start long runs obeys = λ i j pair. apart_where_finished work start i j (obeys.ordered i j pair.ordered) pair.together

@@ -7,8 +7,8 @@ ghost use Rattle.waff_model.specs.declared.cell.Cell.{Cell};
 ghost use Rattle.waff_model.specs.declared.op.Op.{Op};
 ghost use Rattle.waff_run.specs.Calls.{AreOneCall};
 ghost use Rattle.waff_run.specs.Named.{AreEnds, ListsSpots};
-ghost use Rattle.waff_run.specs.PlaceLaws.{CellsAreApart, CellsLieInFiles, FilesAreApart};
-ghost use Rattle.waff_run.specs.PlaceLaws.{FilesHaveOneOwner, PlacesAreFound};
+ghost use Rattle.waff_run.specs.PlaceLaws.{CellsAreApart, CellsLieInFiles, CommonCellsAreRead, FilesAreApart};
+ghost use Rattle.waff_run.specs.PlaceLaws.{FilesHaveOneOwner, MessagesAreApart, PlacesAreFound};
 ghost use Rattle.waff_run.specs.Places.{Placing};
 ghost use Rattle.waff_run.specs.Same.{IsFirstOfTwo};
 ghost use Rattle.waff_run.specs.Syncing.{ListsOnce};
@@ -24,9 +24,17 @@ pub fn files_have_one_owner()
     ensures { (layout : Hierarchy) (bytes : ℕ) → FilesHaveOneOwner layout bytes }
 {}
 
-/// Messages of affinities that do not exclude each other have no file in common.
+/// Messages that do not exclude each other, by their affinities or at all, have no file of a space without locks in
+/// common.
 pub fn files_are_apart()
-    ensures { (layout : Hierarchy) (bytes : ℕ) → FilesAreApart layout bytes }
+    ensures affinities { (layout : Hierarchy) (bytes : ℕ) → FilesAreApart layout bytes }
+    ensures messages { (layout : Hierarchy) (bytes : ℕ) → MessagesAreApart layout bytes }
+{}
+
+/// A cell that messages have in common which do not exclude each other is one of a space with shared locks, and both only
+/// read it.
+pub fn common_cells_are_read()
+    ensures { (layout : Hierarchy) → CommonCellsAreRead layout }
 {}
 
 /// Each cell of a layout lies in one of its files.

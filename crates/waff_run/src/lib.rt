@@ -20,8 +20,10 @@
 //! was asked once, in order, its syncs behind its writes, and nothing else (`AreAsked`), as far as the store
 //! tells what it is asked. Where a cell lies is an equation (`spot_of`). Laws say what follows:
 //! no two cells have a byte in common (`CellsAreApart`), and the cells of one file have one owner
-//! (`FilesHaveOneOwner`), so messages that may run at once have no file in common
-//! (`FilesAreApart`). Calls of the crate's own promise to which length a file is brought at least
+//! (`FilesHaveOneOwner`), so messages that may run at once have no file of a space without locks in
+//! common (`FilesAreApart`, `MessagesAreApart`). They may use one file of a space with locks at
+//! once, but no cell of it, unless both only read it and its lock is shared
+//! (`CommonCellsAreRead`). Calls of the crate's own promise to which length a file is brought at least
 //! (`AreEnds`), which cells are filled (`ListsSpots`), which files are synced (`ListsOnce`), and
 //! which file of a run is told as another of them too (`IsFirstOfTwo`). An error tells why the files
 //! were not opened (`IsOfOpening`), or why what was begun did not come to its end (`IsOfRunning`):

@@ -33,9 +33,10 @@ use Rattle.waff_list.proofs.TraceWork.{count_is}
 use Rattle.waff_check.proofs.ServesLaws.{serves_where_obeys}
 use Rattle.waff_figures.specs.Sweep.{IsPlanOf}
 use Rattle.waff_tool.specs.Certificates.{AlikeObey, IsBounded, IsCertified}
+use Rattle.waff_assign.specs.Held.{Held}
 
 -- a plan of the messages has as many of them as have affinities
-pub as_many : (messages : List Message) (timings : List Timing) (assigned : List ℕ) → timings ≡ timings_of messages
+pub as_many : (messages : List Message) (timings : List Timing) (assigned : List Held) → timings ≡ timings_of messages
     → length assigned ≡ length messages → length timings ≡ length assigned
 as_many messages timings assigned are same = ap length are ∙ count_is messages ∙ sym same
 
@@ -51,7 +52,7 @@ busy_again before again work k start to from plan = record {
 }
 
 -- a plan by a rule leaves no worker idle
-pub busy_served : (version : Version) (rule : Rule) (tree : List Node) (assigned : List ℕ) (work : Work) (k : ℕ) (start : ℕ → ℕ)
+pub busy_served : (version : Version) (rule : Rule) (tree : List Node) (assigned : List Held) (work : Work) (k : ℕ) (start : ℕ → ℕ)
     → IsPlanServed version rule tree assigned work k start → IsBusyPlan (served_before version tree assigned work start) work k start
 busy_served V1 rule tree assigned work k start plan = busy_by_rule rule (IsOrdered tree assigned) work k start plan
 busy_served V2 rule tree assigned work k start plan = busy_by_rule rule (IsOrdered tree assigned) work k start plan

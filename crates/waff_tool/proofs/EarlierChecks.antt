@@ -23,6 +23,7 @@ use Rattle.waff_tool.specs.declared.draws.Picture.{Picture}
 use Rattle.waff_tool.specs.declared.draws.Picture.TheVariants as picture
 use Rattle.waff_tool.proofs.EarlierReadings.{Both, down, given_in, plan_read_same, up}
 use Rattle.waff_tool.proofs.EarlierTexts.{instance_in, rated}
+use Rattle.waff_assign.specs.Held.{Held}
 
 -- what a check, a rating and a picture tell of an instance and a plan text
 pub record IsCheckedIn (instance : Instance) (plan_file : List ℕ) (v : Verdict) : Type 0 where
@@ -42,7 +43,7 @@ pub record IsDrawnIn (instance : Instance) (plan_file : List ℕ) (picture : Pic
   pub is_plan : plan_of instance.trace.version (length instance.trace.messages) plan_file ≡ Ok given
   pub drawn : text ≡ picture_of picture (scene_of instance given part)
 
-module _ (tree : List Node) (assigned sizes : List ℕ) (messages : List Message) where
+module _ (tree : List Node) (assigned : List Held) (sizes : List ℕ) (messages : List Message) where
   abbrev in_version : Version → Instance
   in_version = instance_in tree assigned sizes messages
 

@@ -35,6 +35,7 @@ use Rattle.waff_tool.proofs.EarlierReadings.{Both, down, up}
 use Rattle.waff_tool.proofs.EarlierTexts.{are_listed, compared, instance_in, limits_of, ranked, tells, trace_in}
 use Rattle.waff_tool.proofs.LimitsTexts.{limits_text_is_one}
 use Rattle.waff_tool.proofs.TextUniqueness.{is_sound}
+use Rattle.waff_assign.specs.Held.{Held}
 
 -- the messages of a trace of the third version have no lists
 pub have_no_lists : (spaces : List Space) (trace_file earlier_file : List ℕ) → HaveNoLists spaces trace_file earlier_file
@@ -58,7 +59,7 @@ spelled : (v w : Version) (spaces : List Space) (one_file other_file : List ℕ)
 spelled v w spaces one_file other_file trace s read = same_ok (trace_of spaces one_file) trace (trace_in s.sizes s.messages v) read s.is_trace
 
 told_in : {A : Type 0} (v w : Version) (IsTold Again : Hierarchy → Instance → A → Type 0)
-    → ((layout : Hierarchy) (tree : List Node) (assigned sizes : List ℕ) (messages : List Message) (a : A)
+    → ((layout : Hierarchy) (tree : List Node) (assigned : List Held) (sizes : List ℕ) (messages : List Message) (a : A)
     → IsTold layout (instance_in tree assigned sizes messages v) a → Again layout (instance_in tree assigned sizes messages w) a)
     → (hierarchy_file one_file other_file : List ℕ) → AreSame v w hierarchy_file one_file other_file → (a : A)
     → IsToldUnder IsTold hierarchy_file one_file a → IsToldUnder Again hierarchy_file other_file a
@@ -82,7 +83,7 @@ told_in v w IsTold Again again hierarchy_file one_file other_file same a p =
 
 -- and back
 told_same : {A : Type 0} (IsTold : Hierarchy → Instance → A → Type 0)
-    → ((v w : Version) → Both v w → (layout : Hierarchy) (tree : List Node) (assigned sizes : List ℕ) (messages : List Message) (a : A)
+    → ((v w : Version) → Both v w → (layout : Hierarchy) (tree : List Node) (assigned : List Held) (sizes : List ℕ) (messages : List Message) (a : A)
     → IsTold layout (instance_in tree assigned sizes messages v) a → IsTold layout (instance_in tree assigned sizes messages w) a)
     → (hierarchy_file trace_file earlier_file : List ℕ) → AreSameUnder hierarchy_file trace_file earlier_file → (a : A)
     → IsToldUnder IsTold hierarchy_file trace_file a ↔ IsToldUnder IsTold hierarchy_file earlier_file a
@@ -262,7 +263,7 @@ abbrev HasLess : Rule → List ℕ → Hierarchy → Instance → List ℕ → T
 HasLess rule workers layout instance text =
     (earlier : List ℕ) × TellsLimits rule workers layout.spaces instance earlier × HasLineMore text earlier
 
-limits_down : (rule : Rule) (workers : List ℕ) (layout : Hierarchy) (tree : List Node) (assigned sizes : List ℕ) (messages : List Message) (text : List ℕ)
+limits_down : (rule : Rule) (workers : List ℕ) (layout : Hierarchy) (tree : List Node) (assigned : List Held) (sizes : List ℕ) (messages : List Message) (text : List ℕ)
     → TellsLimits rule workers layout.spaces (instance_in tree assigned sizes messages V4) text
     → HasLess rule workers layout (instance_in tree assigned sizes messages V3) text
 limits_down rule workers layout tree assigned sizes messages text p =
@@ -279,7 +280,7 @@ limits_down rule workers layout tree assigned sizes messages text p =
         listed = p.listed;
         fits = p.fits;
         least = p.least;
-        are_limits = limits_of tree assigned sizes messages down (start_of p.starts) limits p.are_limits;
+        are_limits = limits_of tree assigned sizes messages down layout.spaces (start_of p.starts) limits p.are_limits;
         are_listed = are_listed tree assigned sizes messages down rule _ workers p.listed p.are_listed;
         lines = refl;
       },

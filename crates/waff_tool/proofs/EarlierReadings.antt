@@ -16,6 +16,7 @@ use Rattle.waff_plan_text.specs.Summaries.{begins_summary, summary_of}
 use Rattle.waff_plan_text.specs.declared.refusal.PlanTextError.{PlanTextError}
 use Rattle.waff_plan_text.specs.declared.refusal.PlanTextError.TheVariants as error
 use Rattle.waff_plan_text.specs.declared.row.Row.{Row}
+use Rattle.waff_assign.specs.Held.{Held}
 
 -- the two versions, from the later to the earlier one or back
 pub data Both : Version → Version → Type 0 where
@@ -23,7 +24,7 @@ pub data Both : Version → Version → Type 0 where
   up : Both V3 V4
 
 -- the lines of a plan are the same
-pub lines_same : {v w : Version} → Both v w → (tree : List Node) (assigned : List ℕ) (work : Work) (workers : Option ℕ) (start : ℕ → ℕ) (worker : ℕ → Option ℕ)
+pub lines_same : {v w : Version} → Both v w → (tree : List Node) (assigned : List Held) (work : Work) (workers : Option ℕ) (start : ℕ → ℕ) (worker : ℕ → Option ℕ)
     (chain : List ℕ) → plan_lines v tree assigned work workers start worker chain ≡ plan_lines w tree assigned work workers start worker chain
 unfolding summary_lines
 lines_same down tree assigned work workers start worker chain = refl

@@ -1,6 +1,6 @@
 -- What is told of a trace of the fourth version without lists is told of the same trace of the third, and back.
-use Rattle.std.proofs.Common.{◌≡◌, ℕ, false, List, Option, Some, None, ◌∙◌, ap}
-use Rattle.waff_model.specs.Layout.{Hierarchy}
+use Rattle.std.proofs.Common.{◌≡◌, ℕ, Bool, false, List, Option, Some, None, ◌∙◌, ap}
+use Rattle.waff_model.specs.Layout.{Hierarchy, Space, has_locks}
 use Rattle.waff_model.specs.Messages.{Arrivals}
 use Rattle.waff_model.specs.Tree.{Node}
 use Rattle.waff_model.specs.declared.kind.Kind.{Kind}
@@ -39,16 +39,18 @@ use Rattle.waff_tool.specs.WhyText.{TellsWhy}
 use Rattle.waff_tool.specs.WorstText.{TellsWorst}
 use Rattle.waff_tool.specs.declared.measures.Measured.{Measured}
 use Rattle.waff_tool.specs.declared.ranks.Ranked.{Ranked}
+use Rattle.waff_tool.proofs.EarlierLocks.{locks}
 use Rattle.waff_tool.proofs.EarlierReadings.{Both, down, lines_same, up}
+use Rattle.waff_assign.specs.Held.{Held}
 
 -- a trace of these messages, and an instance of it, of either version
 abbrev pub trace_in : List ℕ → List Message → Version → Arrivals
 trace_in sizes messages version = record { version = version; sizes = sizes; messages = messages }
 
-abbrev pub instance_in : List Node → List ℕ → List ℕ → List Message → Version → Instance
+abbrev pub instance_in : List Node → List Held → List ℕ → List Message → Version → Instance
 instance_in tree assigned sizes messages version = record { tree = tree; assigned = assigned; trace = trace_in sizes messages version }
 
-module _ (tree : List Node) (assigned sizes : List ℕ) (messages : List Message) where
+module _ (tree : List Node) (assigned : List Held) (sizes : List ℕ) (messages : List Message) where
   abbrev in_version : Version → Instance
   in_version = instance_in tree assigned sizes messages
 
@@ -218,9 +220,9 @@ module _ (tree : List Node) (assigned sizes : List ℕ) (messages : List Message
   }
 
   -- `where`
-  spent : (v w : Version) (label : Option Label) (columns : Columns) (start : ℕ → ℕ) (chain text : List ℕ)
-      → TellsSpent label columns (in_version v) start chain text → TellsSpent label columns (in_version w) start chain text
-  spent v w None columns start chain text p = record {
+  spent : (v w : Version) (locks : Bool) (label : Option Label) (columns : Columns) (start : ℕ → ℕ) (chain text : List ℕ)
+      → TellsSpent locks label columns (in_version v) start chain text → TellsSpent locks label columns (in_version w) start chain text
+  spent v w locks None columns start chain text p = record {
     below = p.below;
     parts = p.parts;
     are_below = p.are_below;
@@ -230,7 +232,7 @@ module _ (tree : List Node) (assigned sizes : List ℕ) (messages : List Message
     waits_add_up = p.waits_add_up;
     lines = p.lines;
   }
-  spent v w (Some label) columns start chain text p = record {
+  spent v w locks (Some label) columns start chain text p = record {
     parts = p.parts;
     are_parts = p.are_parts;
     names_add_up = p.names_add_up;
@@ -238,13 +240,13 @@ module _ (tree : List Node) (assigned sizes : List ℕ) (messages : List Message
     lines = p.lines;
   }
 
-  spends : {v w : Version} → Both v w → (rule : Rule) (workers : Option ℕ) (label : Option Label) (columns : Columns) (text : List ℕ)
-      → TellsWhere rule workers label columns (in_version v) text → TellsWhere rule workers label columns (in_version w) text
-  spends {v} {w} both rule workers label columns text p = record {
+  spends : {v w : Version} → Both v w → (locks : Bool) (rule : Rule) (workers : Option ℕ) (label : Option Label) (columns : Columns) (text : List ℕ)
+      → TellsWhere locks rule workers label columns (in_version v) text → TellsWhere locks rule workers label columns (in_version w) text
+  spends {v} {w} both locks rule workers label columns text p = record {
     starts = p.starts;
     chain = p.chain;
     chained = chained both rule workers (start_of p.starts) p.chain p.chained;
-    spent = spent v w label columns (start_of p.starts) p.chain text p.spent;
+    spent = spent v w locks label columns (start_of p.starts) p.chain text p.spent;
   }
 
   -- `needs` and `why` do not ask for the version
@@ -271,20 +273,23 @@ module _ (tree : List Node) (assigned sizes : List ℕ) (messages : List Message
   tells {v} {w} both told.Needs other layout text p = needs v w text p
   tells both (told.Sweep given rule) other layout text p = sweep both rule (numbers_or given sweep_workers) text p
   tells both (told.Limits given rule) other layout text p = absurd (cc other)
-  tells both (told.Where workers rule label columns) other layout text p = spends both rule workers label columns text p
+  tells both (told.Where workers rule label columns) other layout text p = spends both (has_locks layout.spaces) rule workers label columns text p
   tells both (told.Waits workers rule grouping) other layout text p = waits both rule workers grouping text p
   tells both (told.Worst workers rule most) other layout text p = worst both rule workers most text p
   tells {v} {w} both (told.Why grouping) other layout text p = why v w grouping layout text p
+  tells both (told.Locks workers rule kind steps) other layout text p =
+      locks (record { workers = workers; rule = rule; kind = kind; steps = steps }) layout sizes messages both text p
 
   -- `limits`
-  pub limits_of : {v w : Version} → Both v w → (start : ℕ → ℕ) (limits : Limits) → AreLimits (in_version v) start limits → AreLimits (in_version w) start limits
-  limits_of both start limits p = record {
+  pub limits_of : {v w : Version} → Both v w → (spaces : List Space) (start : ℕ → ℕ) (limits : Limits) → AreLimits spaces (in_version v) start limits → AreLimits spaces (in_version w) start limits
+  limits_of both spaces start limits p = record {
     total = p.total;
     client = p.client;
     after = p.after;
     writes = p.writes;
     cell = p.cell;
     path = p.path;
+    locks = p.locks;
     order = p.order;
   }
 
@@ -326,7 +331,7 @@ module _ (tree : List Node) (assigned sizes : List ℕ) (messages : List Message
       record { starts = p.starts; chain = p.chain; bounded = bounded both Arrival k (start_of p.starts) p.chain p.bounded; told = p.told }
 
 module _ (sizes : List ℕ) (messages : List Message) where
-  measured : {v w : Version} → Both v w → (layout : Hierarchy) (assigned : List ℕ) (k : ℕ) (found : Measured)
+  measured : {v w : Version} → Both v w → (layout : Hierarchy) (assigned : List Held) (k : ℕ) (found : Measured)
       → IsMeasured layout assigned (trace_in sizes messages v) k found → IsMeasured layout assigned (trace_in sizes messages w) k found
   measured both layout assigned k found p = record {
     kind = p.kind;

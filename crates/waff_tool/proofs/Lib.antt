@@ -5,6 +5,7 @@ pub mod CheckUniqueness
 mod ComparisonLemmas
 pub mod ComparisonRefusals
 mod EarlierReadings
+mod EarlierLocks
 mod EarlierTexts
 mod EarlierChecks
 mod EarlierLaws
@@ -31,3 +32,4 @@ pub mod WaitsTexts
 pub mod WhereTexts
 pub mod WorstTexts
 pub mod WhyTexts
+mod UnlockedReplays

@@ -1,6 +1,10 @@
 -- The text of what limits a workload is one, and what it says of all plans.
 use Rattle.std.proofs.Common.{◌≡◌, ℕ, zero, suc, ◌≤◌, ◌⊎◌, inl, inr, true, false, List, [], ◌∷◌, ◌++◌, Option, Some, None, Contains, sym, ◌∙◌, ap, subst, arith}
+use Rattle.std.proofs.Math.Path.{fun_ext}
 use Rattle.std.proofs.lemmas.List.Elements.{Contains-append_cases}
+use Rattle.waff_model.specs.declared.cell.Cell.{Cell}
+use Rattle.waff_model.specs.declared.message.Message.{Message}
+use Rattle.waff_assign.proofs.Knowing.{unlocked_known}
 use Rattle.waff_model.specs.Messages.{Arrivals}
 use Rattle.waff_model.specs.Unique.{AtMostOne}
 use Rattle.waff_model.specs.Versions.{has_clients}
@@ -23,11 +27,13 @@ use Rattle.waff_figures.specs.Least.{least_in, least_where}
 use Rattle.waff_figures.specs.Sweep.{AreListed, IsListed}
 use Rattle.waff_figures.specs.Figures.{AreFigures}
 use Rattle.waff_figures.specs.declared.figures.Figures.{Figures}
-use Rattle.waff_limits.specs.Data.{IsMostOf, ticks_on}
-use Rattle.waff_limits.specs.Laws.{AfterIsNotBelow, IsUnder, KeepsOrderWhere, NoListsAddNothing, PathIsReached, greatest_limit}
+use Rattle.waff_limits.specs.Data.{IsMostOf}
+use Rattle.waff_limits.specs.Locks.{ticks_needed}
+use Rattle.waff_limits.specs.declared.data.CellUse.{CellUse}
+use Rattle.waff_limits.specs.Laws.{AfterIsNotBelow, IsUnder, KeepsOrderWhere, NoListsAddNothing, PathIsReached, SharesNoMore, greatest_limit}
 use Rattle.waff_limits.specs.Limits.{limits_lines, ticks_of}
 use Rattle.waff_limits.specs.Writes.{ticks_shared}
-use Rattle.waff_limits.proofs.Sharing.{writes_below}
+use Rattle.waff_limits.proofs.SharedCells.{needed_more, writes_below}
 use Rattle.waff_limits.proofs.LimitLaws.{cell_below, is_lower_bound, limits_are_one, most_of_is_one, none_below, not_below, shortest}
 use Rattle.waff_inputs.proofs.SameInput.{same_ok}
 use Rattle.waff_tool.specs.LimitsText.{AfterIsBetweenInText, DataBoundsTexts, IsLimitsText, LimitsAreSwept, NoneIsBelowText, OrderIsBetween, OrderIsBetweenInText, OrderIsShortestInText, TellsLimits, TreeIsReachedInText}
@@ -42,7 +48,7 @@ limits_text_is_one rule workers spaces instance sound text other p q =
     let work = work_of_instance instance in
     let same = least_in_one instance sound (start_of p.starts) (start_of q.starts) p.least q.least in
     let lengths = same_length work (start_of p.starts) (start_of q.starts) same in
-    let limits = limits_are_one instance (start_of p.starts) (start_of q.starts) p.limits q.limits same p.are_limits q.are_limits in
+    let limits = limits_are_one instance spaces (start_of p.starts) (start_of q.starts) p.limits q.limits same p.are_limits q.are_limits in
     let lists = listed_is_one rule instance sound (length_of work (start_of p.starts)) workers p.listed q.listed p.are_listed
     (subst (λ n. AreListed rule instance n workers q.listed) (sym lengths) q.are_listed) in
     p.lines
@@ -133,9 +139,9 @@ after_is_between no_less nothing rule hierarchy_file trace_file workers text tol
     let start = start_of told.told.starts in
     let most = (between rule hierarchy_file trace_file workers text told).above in
     record {
-      above = no_less told.instance start limits told.told.are_limits;
+      above = no_less told.instance told.accepts.layout.spaces start limits told.told.are_limits;
       below = omega (arith, most);
-      alone = nothing told.instance start limits told.told.are_limits;
+      alone = nothing told.instance told.accepts.layout.spaces start limits told.told.are_limits;
     }
 
 pub none_is_below_text : (rule : Rule) (hierarchy_file trace_file : List ℕ) → NoneIsBelowText rule hierarchy_file trace_file
@@ -160,24 +166,54 @@ order_is_between rule hierarchy_file trace_file workers text told = between rule
 
 pub tree_is_reached_in_text : ((instance : Instance) → PathIsReached instance) → (rule : Rule) (hierarchy_file trace_file : List ℕ)
     → TreeIsReachedInText rule hierarchy_file trace_file
-tree_is_reached_in_text law rule hierarchy_file trace_file workers text told free =
-    law told.instance told.accepts.layout (start_of told.told.starts) told.told.limits (under rule hierarchy_file trace_file workers text told) told.told.are_limits free
+tree_is_reached_in_text law rule hierarchy_file trace_file workers text told none free =
+    law told.instance told.accepts.layout (start_of told.told.starts) told.told.limits (under rule hierarchy_file trace_file workers text told) told.told.are_limits
+    (unlocked_known told.accepts.layout told.instance.trace.messages told.instance.assigned none told.accepts.assignment) free
+
+-- a cell that is needed longest is needed as long as any
+within_most : (used : Cell → ℕ) (found : Option CellUse) → IsMostOf used found → (cell : Cell) → used cell ≤ ticks_of found
+within_most used None none cell = omega (arith, none cell)
+within_most used (Some one) most cell = most.most cell
+
+module _ (spaces others : List Space) (messages : List Message) where
+  -- where no more spaces are shared
+  needed_less : SharesNoMore others spaces → (found other : Option CellUse) → IsMostOf (ticks_needed spaces messages) found
+      → IsMostOf (ticks_needed others messages) other → ticks_of found ≤ ticks_of other
+  needed_less shares None other most again = omega arith
+  needed_less shares (Some one) other most again =
+      let more = needed_more spaces others messages one.cell (shares one.cell) in
+      omega (arith, most.ticks, more, within_most (ticks_needed others messages) other again one.cell)
+
+  -- where the same are
+  needed_same : SharesNoMore others spaces → SharesNoMore spaces others → ticks_needed spaces messages ≡ ticks_needed others messages
+  needed_same less more = fun_ext (λ cell.
+      let one = needed_more spaces others messages cell (less cell) in
+      let other = needed_more others spaces messages cell (more cell) in
+      omega (arith, one, other))
 
 pub data_bounds_texts : (rule other_rule : Rule) (hierarchy_file other_file trace_file : List ℕ) → DataBoundsTexts rule other_rule hierarchy_file other_file trace_file
-data_bounds_texts rule other_rule hierarchy_file other_file trace_file workers other_workers text other told again spaces =
+data_bounds_texts rule other_rule hierarchy_file other_file trace_file workers other_workers text other told again same_spaces =
+    let spaces = told.accepts.layout.spaces in
+    let others = again.accepts.layout.spaces in
+    let messages = again.instance.trace.messages in
     let found = told.told.limits.cell in
     let same : told.instance.trace ≡ again.instance.trace
-    = same_ok (trace_of told.accepts.layout.spaces trace_file) told.instance.trace again.instance.trace told.accepts.is_trace
-    (read_alike newest told.accepts.layout.spaces again.accepts.layout.spaces trace_file spaces ∙ again.accepts.is_trace) in
-    let most : IsMostOf (ticks_on again.instance.trace.messages) found
-    = subst (λ (t : Arrivals). IsMostOf (ticks_on t.messages) found) same told.told.are_limits.cell in
+    = same_ok (trace_of spaces trace_file) told.instance.trace again.instance.trace told.accepts.is_trace
+    (read_alike newest spaces others trace_file same_spaces ∙ again.accepts.is_trace) in
+    let most : IsMostOf (ticks_needed spaces messages) found
+    = subst (λ (t : Arrivals). IsMostOf (ticks_needed spaces t.messages) found) same told.told.are_limits.cell in
     let shared = told.told.limits.writes in
-    let most_shared : IsMostOf (ticks_shared again.instance.trace.messages) shared
+    let most_shared : IsMostOf (ticks_shared messages) shared
     = subst (λ (t : Arrivals). IsMostOf (ticks_shared t.messages) shared) same told.told.are_limits.writes in
     record {
-      same_writes = most_of_is_one (ticks_shared again.instance.trace.messages) shared again.told.limits.writes most_shared again.told.are_limits.writes;
-      writes = writes_below again.instance.trace.messages shared again.told.limits.cell most_shared again.told.are_limits.cell;
-      same = most_of_is_one (ticks_on again.instance.trace.messages) found again.told.limits.cell most again.told.are_limits.cell;
-      below = subst (λ n. ticks_of found ≤ n) (sym again.told.are_limits.path.ticks)
-          (cell_below again.instance again.accepts.layout (under other_rule other_file trace_file other_workers other again) found most);
+      same_writes = most_of_is_one (ticks_shared messages) shared again.told.limits.writes most_shared again.told.are_limits.writes;
+      writes = writes_below others messages shared again.told.limits.cell most_shared again.told.are_limits.cell;
+      below = λ shares.
+          let less = needed_less spaces others messages shares found again.told.limits.cell most again.told.are_limits.cell in
+          let bound = cell_below again.instance again.accepts.layout (under other_rule other_file trace_file other_workers other again) again.told.limits.cell
+          again.told.limits.locks again.told.are_limits.cell again.told.are_limits.locks in
+          let path = again.told.are_limits.path.ticks in
+          rw path (omega (arith, less, bound));
+      same = λ less more. most_of_is_one (ticks_needed others messages) found again.told.limits.cell
+          (subst (λ used. IsMostOf used found) (needed_same spaces others messages less more) most) again.told.are_limits.cell;
     }

@@ -12,6 +12,7 @@ use Rattle.waff_order.specs.Needs.{AreNeeds}
 use Rattle.waff_list.specs.Seats.{ComesBefore, IsInOrder}
 use Rattle.waff_list.specs.Unique.{EachRuns}
 use Rattle.waff_core.specs.Job.{IsOrder, StandsAt}
+use Rattle.waff_assign.specs.Held.{Held}
 
 module _ (start : ℕ → ℕ) (order : List ℕ) (sorted : AllPairs (ComesBefore start) order) where
   -- what stands first comes before what stands later
@@ -31,7 +32,7 @@ not_after : (start : ℕ → ℕ) (i j cost : ℕ) → 1 ≤ cost → start i + 
 not_after start i j cost some done (inl sooner) = omega arith
 not_after start i j cost some done (inr (same, first)) = omega arith
 
-pub plan_order_is_order : (tree : List Node) (assigned : List ℕ) (needs : List (List ℕ)) (work : Work) (start : ℕ → ℕ) (order : List ℕ)
+pub plan_order_is_order : (tree : List Node) (assigned : List Held) (needs : List (List ℕ)) (work : Work) (start : ℕ → ℕ) (order : List ℕ)
     → AreNeeds tree assigned needs → length assigned ≡ work.count → EachRuns work → KeepsOrder (IsOrdered tree assigned) work start
     → IsInOrder work start order → IsOrder needs order
 plan_order_is_order tree assigned needs work start order are same runs keeps listed =
@@ -82,7 +83,7 @@ stands_by_number count place m at =
     (sym (get_or_from_slice_get (range_with_len 1 count) place m m at) ∙ get_or-range_with_len 1 count place m within, within)
 
 -- and each need before its message
-pub numbers_are_order : (tree : List Node) (assigned : List ℕ) (needs : List (List ℕ)) (count : ℕ) → AreNeeds tree assigned needs → length needs ≡ count
+pub numbers_are_order : (tree : List Node) (assigned : List Held) (needs : List (List ℕ)) (count : ℕ) → AreNeeds tree assigned needs → length needs ≡ count
     → IsOrder needs (range_with_len 1 count)
 numbers_are_order tree assigned needs count are same =
     let order = range_with_len 1 count in

@@ -21,8 +21,9 @@ use Rattle.waff_read.proofs.FaultLaws.{trace_is_exact}
 use Rattle.waff_read.proofs.LimitLaws.{layout_is_within_limits, trace_is_within_limits}
 use Rattle.waff_read.proofs.NamedLaws.{affinities_are_named}
 use Rattle.waff_assign.specs.Instance.{Instance}
-use Rattle.waff_assign.specs.Order.{Relation, affinity_of}
-use Rattle.waff_assign.proofs.Knowing.{affinity_known}
+use Rattle.waff_assign.specs.Order.{Relation, affinity_name, affinity_of, name_or_hyphen}
+use Rattle.waff_assign.proofs.Holding.{affinity_known}
+use Rattle.waff_assign.proofs.Knowing.{are_known}
 use Rattle.waff_plan.specs.Bound.{IsWorkers, left_side, right_side}
 use Rattle.waff_plan.specs.Chain.{IsChain, IsListed, chain_cost, chain_release, gaps_after}
 use Rattle.waff_plan.specs.Instances.{served_first, started_first, work_of_instance}
@@ -63,6 +64,7 @@ use Rattle.waff_inputs.proofs.SameInput.{layout_tree}
 use Rattle.waff_tool.specs.CheckText.{AcceptsPlan, IsCheckText}
 use Rattle.waff_tool.specs.PlanText.{TellsLeastPlan, TellsWorkerPlan}
 use Rattle.waff_tool.specs.OwnPlans.{OwnPlanPasses, OwnWorkerPlanPasses, PassesShortWhere}
+use Rattle.waff_assign.specs.Held.{AreKnown, Held}
 
 -- work within the limits of traces
 record IsModest (version : Version) (work : Work) : Type 0 where
@@ -154,8 +156,8 @@ module _ (version : Version) (before : Relation) (work : Work) (modest : IsModes
           modest.cost (get_or (numbers work) k d) (record { from = omega (arith, is); to = omega (arith, is, count) })
 
   -- a plan that is not too long can be told
-  tellable : (tree : List Node) (assigned : List ℕ) (workers : Option ℕ) (start : ℕ → ℕ) (worker : ℕ → Option ℕ)
-      → ((n : ℕ) → IsNumber work n → is_name (name_of tree (affinity_of assigned n)) ≡ true)
+  tellable : (tree : List Node) (assigned : List Held) (workers : Option ℕ) (start : ℕ → ℕ) (worker : ℕ → Option ℕ)
+      → ((n : ℕ) → IsNumber work n → is_name (affinity_name tree assigned n) ≡ true)
       → ((n : ℕ) → IsNumber work n → IfSome (worker n) (λ w. w ≤ MAX_TICK)) → IfSome workers IsWorkers
       → length_of work start ≤ MAX_TICK → (totals_of workers work start chain).left ≤ MAX_TICK → (totals_of workers work start chain).right ≤ MAX_TICK
       → IsTellable version tree assigned work workers start worker chain
@@ -185,7 +187,7 @@ module _ (version : Version) (before : Relation) (work : Work) (modest : IsModes
         };
       }
 
-  given_of : (tree : List Node) (assigned : List ℕ) (workers : Option ℕ) (start : ℕ → ℕ) (worker : ℕ → Option ℕ)
+  given_of : (tree : List Node) (assigned : List Held) (workers : Option ℕ) (start : ℕ → ℕ) (worker : ℕ → Option ℕ)
       → IsTellable version tree assigned work workers start worker chain → IsGiven (plan_told version tree assigned work workers start worker chain)
   given_of tree assigned workers start worker can =
       let row = row_told tree assigned work start worker in
@@ -346,32 +348,32 @@ module _ (hierarchy_file trace_file : List ℕ) (instance : Instance) (accepts :
       started_forward instance.tree instance.assigned (timings_of instance.trace.messages) start (count_in ∙ sym accepts.assignment.count)
       instance.trace.version (are_timings instance.trace is_trace) (λ third. obeys)
 
-  -- the affinities of messages are those of the hierarchy
-  known : (n : ℕ) → 1 ≤ n → n ≤ length instance.trace.messages → affinity_of instance.assigned n < length accepts.layout.tree
+  -- what messages hold is of the hierarchy
+  known : AreKnown accepts.layout.tree instance.assigned
   known =
       let layout = accepts.layout in
       let reads = (trace_is_exact newest layout.spaces trace_file instance.trace).0 accepts.is_trace in
-      affinity_known layout (layout_is_within_limits hierarchy_file layout accepts.is_layout) instance.trace instance.assigned is_trace reads.sizes accepts.assignment
+      are_known layout (layout_is_within_limits hierarchy_file layout accepts.is_layout) instance.trace instance.assigned is_trace reads.sizes accepts.assignment
 
-  all_known : All (λ a. a < length instance.tree) instance.assigned
-  all_known k d within =
-      let count : length instance.assigned ≡ length instance.trace.messages = accepts.assignment.count in
-      let at : k + 1 - 1 ≡ k = omega arith in
-      let same : slice_index instance.assigned (k + 1 - 1) ≡ get_or instance.assigned k d
-      = ap (slice_index instance.assigned) at ∙ get_or_default instance.assigned k 0 d within in
-      subst (λ tree. get_or instance.assigned k d < length tree) accepts.tree
-      (subst (λ a. a < length accepts.layout.tree) same (known (k + 1) (omega arith) (omega (arith, within, count))))
+  all_known : AreKnown instance.tree instance.assigned
+  all_known = subst (λ tree. AreKnown tree instance.assigned) accepts.tree known
 
-  -- and have names
-  named : (n : ℕ) → IsNumber (work_of_instance instance) n → is_name (name_of instance.tree (affinity_of instance.assigned n)) ≡ true
-  named n number =
+  -- and affinities have names, which a hyphen is too
+  named_in : (o : Option ℕ) → ((a : ℕ) → o ≡ Some a → a < length accepts.layout.tree) → is_name (name_or_hyphen accepts.layout.tree o) ≡ true
+  named_in None within = refl
+  named_in (Some a) within =
       let layout = accepts.layout in
-      let a = affinity_of instance.assigned n in
       let no_node : Node = record { name = []; parent = None } in
-      let there = known n number.from (omega (arith, number.to, count_in)) in
+      let there = within a refl in
       let is : name_of layout.tree a ≡ (get_or layout.tree a no_node).name =
       ap (λ o. unwrap_or (option_map (λ (node : Node). node.name) o) []) (slice_get-get_or layout.tree a no_node there) in
-      subst (λ tree. is_name (name_of tree a) ≡ true) accepts.tree (ap is_name is ∙ affinities_are_named hierarchy_file layout accepts.is_layout a no_node there)
+      ap is_name is ∙ affinities_are_named hierarchy_file layout accepts.is_layout a no_node there
+
+  named : (n : ℕ) → IsNumber (work_of_instance instance) n → is_name (affinity_name instance.tree instance.assigned n) ≡ true
+  named n number =
+      subst (λ tree. is_name (affinity_name tree instance.assigned n) ≡ true) accepts.tree
+      (named_in (affinity_of instance.assigned n)
+      (λ a is. affinity_known accepts.layout.tree instance.assigned n a known number.from (omega (arith, number.to, count_in, accepts.assignment.count)) is))
 
   -- a plan that is told is read
   accepted_plan : (text : List ℕ) (workers : Option ℕ) (start : ℕ → ℕ) (worker : ℕ → Option ℕ) (chain : List ℕ) → IsFit instance workers start worker chain

@@ -23,6 +23,7 @@ use Rattle.waff_list.proofs.RuleLemmas.{rule_plan_is_one}
 use Rattle.waff_list.proofs.TraceWork.{count_is}
 use Rattle.waff_figures.specs.Sweep.{IsPlanOf}
 use Rattle.waff_figures.proofs.WaitUnique.{started_same}
+use Rattle.waff_assign.specs.Held.{Held}
 
 -- what holds of the instances of files: each message has an affinity, each runs, and each awaits earlier ones
 pub record IsSound (instance : Instance) : Type 0 where
@@ -57,7 +58,7 @@ module _ (before again : Relation) (work : Work) (start : ℕ → ℕ) (to : (i 
   printed_again (m ∷ rest) (first, leads) = ((λ i linked. first i (linked_from i m linked)), leads_again m rest leads)
 
 -- the order of chains goes forward
-forward_by : (version : Version) (tree : List Node) (assigned : List ℕ) (work : Work) → length assigned ≡ work.count → AwaitsEarlier work → EachRuns work
+forward_by : (version : Version) (tree : List Node) (assigned : List Held) (work : Work) → length assigned ≡ work.count → AwaitsEarlier work → EachRuns work
     → (start : ℕ → ℕ) → StartsIssued work start → IsForward (started_before version tree assigned start) work
 forward_by V1 tree assigned work count follows runs start issued = IsOrdered_forward tree assigned work count follows
 forward_by V2 tree assigned work count follows runs start issued = IsOrdered_forward tree assigned work count follows
@@ -65,7 +66,7 @@ forward_by V3 tree assigned work count follows runs start issued = IsStartedBefo
 forward_by V4 tree assigned work count follows runs start issued = IsStartedBefore_forward tree assigned work count runs start issued follows
 
 -- the plan by a rule
-rule_by : (version : Version) (rule : Rule) (tree : List Node) (assigned : List ℕ) (work : Work) → length assigned ≡ work.count → AwaitsEarlier work
+rule_by : (version : Version) (rule : Rule) (tree : List Node) (assigned : List Held) (work : Work) → length assigned ≡ work.count → AwaitsEarlier work
     → EachRuns work → (k : ℕ) (start other : ℕ → ℕ) → IsPlanServed version rule tree assigned work k start
     → IsPlanServed version rule tree assigned work k other → AreSame work start other
 rule_by V1 rule tree assigned work count follows runs k start other one two =

@@ -32,6 +32,7 @@ use Rattle.waff_tool.proofs.FigureUniqueness.{count_of, told_swept, workers_at}
 use Rattle.waff_tool.proofs.OwnPlanLaws.{own_plan_read, own_worker_plan_read, plan_in}
 use Rattle.waff_tool.proofs.PlanUniqueness.{IsSound, least_in_one, rule_in_one}
 use Rattle.waff_tool.proofs.TextUniqueness.{is_sound}
+use Rattle.waff_assign.specs.Held.{Held}
 
 -- figures of the same starts, against least plans, which have one length
 rated_same : (instance : Instance) → IsSound instance → (limit : Option ℕ) (start other : ℕ → ℕ) (one another : Figures) (starts : List ℕ)
@@ -61,7 +62,7 @@ rated_is_checked hierarchy_file trace_file plan_file one other text rate check =
     check_text_is_one hierarchy_file trace_file plan_file one other rate.checked check
 
 -- the starts in the rows of a plan that is told are those of the plan
-module _ (version : Version) (tree : List Node) (assigned : List ℕ) (work : Work) (workers : Option ℕ) (start : ℕ → ℕ) (worker : ℕ → Option ℕ) (chain : List ℕ) where
+module _ (version : Version) (tree : List Node) (assigned : List Held) (work : Work) (workers : Option ℕ) (start : ℕ → ℕ) (worker : ℕ → Option ℕ) (chain : List ℕ) where
   told_starts : AreSame work (start_of (starts_of (plan_told version tree assigned work workers start worker chain))) start
   told_starts m number =
       let row = row_told tree assigned work start worker in

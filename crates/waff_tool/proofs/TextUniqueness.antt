@@ -1,7 +1,7 @@
 -- Of the same bytes each command has one text.
-use Rattle.std.proofs.Common.{◌≡◌, ℕ, ◌↔◌, inl, inr, IsTrue, List, Option, Some, None, Ok, refl, sym, ◌∙◌, ap, subst}
+use Rattle.std.proofs.Common.{◌≡◌, ℕ, ◌↔◌, inl, inr, Bool, true, false, ◌||◌, IsTrue, List, Option, Some, None, Ok, refl, sym, ◌∙◌, ap, subst}
 use Rattle.std.proofs.lemmas.Bool.Decides.{same_from_decides}
-use Rattle.waff_model.specs.Layout.{Hierarchy}
+use Rattle.waff_model.specs.Layout.{Hierarchy, has_locks}
 use Rattle.waff_model.specs.Messages.{Arrivals}
 use Rattle.waff_model.specs.Tree.{IsTree}
 use Rattle.waff_model.specs.Unique.{AtMostOne}
@@ -31,11 +31,12 @@ use Rattle.waff_plan.proofs.Uniqueness.{totals_same}
 use Rattle.waff_inputs.specs.Inputs.{Accepts, instance_under}
 use Rattle.waff_inputs.proofs.SameInput.{layout_tree, same_ok, same_trace}
 use Rattle.waff_tool.specs.PlanText.{TellsLeastPlan, TellsPlan, TellsWorkerPlan}
-use Rattle.waff_tool.specs.Comparison.{AreModels, IsCompareText, IsCompared, IsMeasured, compare_lines, models_in}
+use Rattle.waff_tool.specs.Comparison.{AreModels, IsCompareText, IsCompared, IsMeasured, IsToldWhere, compare_lines, models_in}
 use Rattle.waff_tool.proofs.ComparisonRefusals.{models_read}
 use Rattle.waff_tool.specs.declared.measures.Measured.{Measured}
 use Rattle.waff_tool.proofs.PlanUniqueness.{IsSound, chain_in_one, least_in_one, rule_in_one}
 use Rattle.waff_tool.proofs.LineLaws.{lines_same}
+use Rattle.waff_assign.specs.Held.{Held}
 
 -- each message of a trace that is read runs
 pub trace_runs : (layout : Hierarchy) (file : List ℕ) (trace : Arrivals) → trace_of layout.spaces file ≡ Ok trace → EachRuns (work_of_messages trace.messages)
@@ -97,7 +98,7 @@ same_measured one other kinds unlimited listed =
     ∙ ap (λ t. made_of other.kind t one.listed) unlimited
     ∙ ap (λ t. made_of other.kind other.unlimited t) listed
 
-measured_is_one : (layout : Hierarchy) (assigned : List ℕ) (trace : Arrivals) (k : ℕ) → IsSound (instance_under layout assigned trace)
+measured_is_one : (layout : Hierarchy) (assigned : List Held) (trace : Arrivals) (k : ℕ) → IsSound (instance_under layout assigned trace)
     → AtMostOne (IsMeasured layout assigned trace k)
 measured_is_one layout assigned trace k sound one other p q =
     let instance = instance_under layout assigned trace in
@@ -114,6 +115,11 @@ measured_is_one layout assigned trace k sound one other p q =
     (p.by_arrival.told ∙ totals_same (Some k) work (start_of p.by_arrival.starts) (start_of q.by_arrival.starts) p.by_arrival.chain same_list
     ∙ ap (λ c. totals_of (Some k) work (start_of q.by_arrival.starts) c) list_chains ∙ sym q.by_arrival.told)
 
+-- whether a fact holds is told in one way
+told_is_one : (locks : Bool) (Fact : Type 0) (one other : Option Bool) → IsToldWhere locks Fact one → IsToldWhere locks Fact other → one ≡ other
+told_is_one true Fact one other p q = p ∙ sym q
+told_is_one false Fact one other p q = p.1 ∙ ap Some (same_from_decides p.0 q.0 p.2 q.2) ∙ sym q.1
+
 -- the comparison
 compared_is_one : (classical hierarchical : Hierarchy) (trace : Arrivals) (k : ℕ) (text other : List ℕ) → IsTree classical.tree → IsTree hierarchical.tree
     → EachRuns (work_of_messages trace.messages) → AwaitsEarlier (work_of_messages trace.messages) → IsCompared classical hierarchical trace k text → IsCompared classical hierarchical trace k other → text ≡ other
@@ -127,10 +133,11 @@ compared_is_one classical hierarchical trace k text other tree fine_tree runs ea
     let of_hierarchical = measured_is_one hierarchical p.fine trace k (record { same = p.fine_assignment.count; runs = runs; earlier = earlier })
     p.of_hierarchical q.of_hierarchical p.hierarchical_measured
     (subst (λ a. IsMeasured hierarchical a trace k q.of_hierarchical) (sym fine) q.hierarchical_measured) in
-    let told : IsTrue q.refined ↔ Refines hierarchical.tree p.fine classical.tree p.coarse =
-    subst (λ a. IsTrue q.refined ↔ Refines hierarchical.tree p.fine classical.tree a) (sym coarse)
-    (subst (λ a. IsTrue q.refined ↔ Refines hierarchical.tree a classical.tree q.coarse) (sym fine) q.told) in
-    let refined : p.refined ≡ q.refined = same_from_decides p.refined q.refined p.told told in
+    let locks = has_locks classical.spaces || has_locks hierarchical.spaces in
+    let told : IsToldWhere locks (Refines hierarchical.tree p.fine classical.tree p.coarse) q.refined =
+    subst (λ a. IsToldWhere locks (Refines hierarchical.tree p.fine classical.tree a) q.refined) (sym coarse)
+    (subst (λ a. IsToldWhere locks (Refines hierarchical.tree a classical.tree q.coarse) q.refined) (sym fine) q.told) in
+    let refined : p.refined ≡ q.refined = told_is_one locks (Refines hierarchical.tree p.fine classical.tree p.coarse) p.refined q.refined p.told told in
     p.lines
     ∙ ap (λ m. text_of (compare_lines trace.version k (total_of work) m p.of_hierarchical p.refined)) of_classical
     ∙ ap (λ m. text_of (compare_lines trace.version k (total_of work) q.of_classical m p.refined)) of_hierarchical

@@ -1,10 +1,10 @@
 -- What is printed where a classical and a hierarchical hierarchy are compared on one trace.
 use Rattle.std.specs.Prelude.{◌≡◌, ℕ, ◌≤◌, ◌⊎◌, ◌↔◌, Bool, true, false, IsTrue, List, [], ◌∷◌, ◌++◌}
-use Rattle.std.specs.Prelude.{◌<◌, ◌==◌, ◌&&◌, All, length, Some, None, Result, Ok, Err, codes, decimal}
+use Rattle.std.specs.Prelude.{◌==◌, ◌&&◌, ◌||◌, length, Option, Some, None, Result, Ok, Err, codes, decimal}
 use Rattle.std.specs.Prelude.{if◌then◌else◌}
 use Rattle.std.specs.List.{list_all, zip}
 use Rattle.std.specs.Str.{bytes_eq}
-use Rattle.waff_model.specs.Layout.{Hierarchy, SameSpaces}
+use Rattle.waff_model.specs.Layout.{Hierarchy, SameSpaces, has_locks}
 use Rattle.waff_model.specs.Messages.{Arrivals}
 use Rattle.waff_model.specs.Versions.{has_clients, has_releases}
 use Rattle.waff_model.specs.declared.kind.Kind.{Kind}
@@ -29,6 +29,7 @@ use Rattle.waff_plan_text.specs.Lines.{text_of}
 use Rattle.waff_inputs.specs.declared.fault.ToolError.{ToolError}
 use Rattle.waff_inputs.specs.declared.fault.ToolError.TheVariants as tool
 use Rattle.waff_tool.specs.declared.measures.Measured.{Measured}
+use Rattle.waff_assign.specs.Held.{AreKnown, Held}
 
 -- the totals of the least plan, with its printed chain
 pub record AreCertifiedTotals (instance : Instance) (totals : Totals) : Type 0 where
@@ -46,7 +47,7 @@ pub record AreListTotals (instance : Instance) (k : ℕ) (totals : Totals) : Typ
 
 -- what is told of a trace under one hierarchy: of its least plan, and of its plan by arrival for k
 -- workers, each with its printed chain
-pub record IsMeasured (layout : Hierarchy) (assigned : List ℕ) (trace : Arrivals) (k : ℕ)
+pub record IsMeasured (layout : Hierarchy) (assigned : List Held) (trace : Arrivals) (k : ℕ)
     (measured : Measured) : Type 0 where
   pub kind : measured.kind ≡ layout.kind
   pub least : AreCertifiedTotals (instance_under layout assigned trace) measured.unlimited
@@ -86,12 +87,13 @@ measured_line version measured =
     ++ plan_fields version measured.listed
     ++ decimal measured.listed.left ∷ decimal measured.listed.right ∷ []
 
-abbrev pub answer_field : Bool → List ℕ
-answer_field true = codes "yes"
-answer_field false = codes "no"
+abbrev pub answer_field : Option Bool → List ℕ
+answer_field (Some true) = codes "yes"
+answer_field (Some false) = codes "no"
+answer_field None = codes "-"
 
 -- the lines of a comparison
-abbrev pub compare_lines : Version → ℕ → ℕ → Measured → Measured → Bool → List (List (List ℕ))
+abbrev pub compare_lines : Version → ℕ → ℕ → Measured → Measured → Option Bool → List (List (List ℕ))
 compare_lines version k total classical hierarchical refined =
     (codes "workers" ∷ decimal k ∷ [])
     ∷ (codes "total" ∷ decimal total ∷ [])
@@ -103,27 +105,33 @@ compare_lines version k total classical hierarchical refined =
 
 -- the affinities of the messages of a trace under a hierarchy, and what is told of it for k workers
 pub record AreAssignedAndMeasured (layout : Hierarchy) (trace : Arrivals) (k : ℕ)
-    (made : List ℕ × Measured) : Type 0 where
+    (made : List Held × Measured) : Type 0 where
   pub assignment : IsAssignment layout trace.messages made.0
-  pub known : All (λ a. a < length layout.tree) made.0
+  pub known : AreKnown layout.tree made.0
   pub measured : IsMeasured layout made.0 trace k made.1
 
--- the text of the comparison of a classical and a hierarchical hierarchy on a trace: it tells
--- whether the hierarchical one refines the classical one, and where it does its least plan is no
+-- whether a fact holds, which is not told where a hierarchy has locks
+abbrev pub IsToldWhere : Bool → Type 0 → Option Bool → Type 0
+IsToldWhere true Fact told = told ≡ None
+IsToldWhere false Fact told = (yes : Bool) × (told ≡ Some yes) × (IsTrue yes ↔ Fact)
+
+-- the text of the comparison of a classical and a hierarchical hierarchy on a trace: where neither has locks it
+-- tells whether the hierarchical one refines the classical one, and where it does its least plan is no
 -- longer, but for a trace with clients, whose plans serve in an order of their own
 pub record IsCompared (classical hierarchical : Hierarchy)
     (trace : Arrivals) (k : ℕ) (text : List ℕ) : Type 0 where
-  pub coarse : List ℕ
-  pub fine : List ℕ
+  pub coarse : List Held
+  pub fine : List Held
   pub of_classical : Measured
   pub of_hierarchical : Measured
-  pub refined : Bool
+  pub refined : Option Bool
   pub coarse_assignment : IsAssignment classical trace.messages coarse
   pub fine_assignment : IsAssignment hierarchical trace.messages fine
   pub classical_measured : IsMeasured classical coarse trace k of_classical
   pub hierarchical_measured : IsMeasured hierarchical fine trace k of_hierarchical
-  pub told : IsTrue refined ↔ Refines hierarchical.tree fine classical.tree coarse
-  pub no_longer : has_clients trace.version ≡ false → IsTrue refined
+  pub told : IsToldWhere (has_locks classical.spaces || has_locks hierarchical.spaces)
+      (Refines hierarchical.tree fine classical.tree coarse) refined
+  pub no_longer : has_clients trace.version ≡ false → refined ≡ Some true
       → of_hierarchical.unlimited.length ≤ of_classical.unlimited.length
   pub lines : text ≡ text_of (compare_lines trace.version k
       (total_of (work_of_messages trace.messages)) of_classical of_hierarchical refined)

@@ -9,6 +9,7 @@ pub mod Earlier
 pub mod Explanations
 pub mod Figures
 pub mod LimitsText
+pub mod LocksText
 pub mod ListOrder
 pub mod NeedsText
 pub mod OwnPlans

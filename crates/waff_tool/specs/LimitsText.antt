@@ -1,6 +1,6 @@
 -- What `limits` prints for the bytes of its files.
-use Rattle.std.specs.Prelude.{◌≡◌, ℕ, ◌≤◌, true, false, List, [], ◌∷◌, ◌++◌, All, Contains, Option, None, IfSome}
-use Rattle.waff_model.specs.Layout.{SameSpaces, Space}
+use Rattle.std.specs.Prelude.{◌≡◌, ℕ, ◌≤◌, max, true, false, List, [], ◌∷◌, ◌++◌, All, Contains, Option, None, IfSome}
+use Rattle.waff_model.specs.Layout.{SameSpaces, Space, has_locks}
 use Rattle.waff_model.specs.Messages.{sizes_of}
 use Rattle.waff_model.specs.Versions.{has_clients}
 use Rattle.waff_model.specs.declared.message.Message.{Message}
@@ -16,7 +16,7 @@ use Rattle.waff_list.specs.declared.rule.Rule.{Rule}
 use Rattle.waff_plan_text.specs.Lines.{text_of}
 use Rattle.waff_figures.specs.Sweep.{AreListed}
 use Rattle.waff_figures.specs.declared.figures.Figures.{Figures}
-use Rattle.waff_limits.specs.Laws.{KeepsOrderWhere, StartsAtOnce, greatest_limit}
+use Rattle.waff_limits.specs.Laws.{KeepsOrderWhere, SharesNoMore, StartsAtOnce, greatest_limit}
 use Rattle.waff_limits.specs.Limits.{AreLimits, limits_lines, ticks_of}
 use Rattle.waff_limits.specs.declared.limits.Limits.{Limits}
 use Rattle.waff_inputs.specs.Inputs.{IsToldUnder}
@@ -32,7 +32,7 @@ pub record TellsLimits (rule : Rule) (workers : List ℕ) (spaces : List Space) 
   pub fits : instance.trace.sizes ≡ sizes_of spaces
   pub least : IsLeast (served_first instance (start_of starts)) (work_of_instance instance)
       (start_of starts)
-  pub are_limits : AreLimits instance (start_of starts) limits
+  pub are_limits : AreLimits spaces instance (start_of starts) limits
   pub are_listed : AreListed rule instance
       (length_of (work_of_instance instance) (start_of starts)) workers listed
   pub lines : text ≡ text_of (limits_lines spaces instance.tree instance.trace workers limits listed)
@@ -43,7 +43,7 @@ IsLimitsText rule hierarchy_file trace_file workers text =
     IsToldUnder (λ layout. TellsLimits rule workers layout.spaces) hierarchy_file trace_file text
 
 -- no plan for as many workers, or without a limit on them, that obeys in whatever order is shorter than the greatest of the share of a
--- worker, the clients, the lists, the writes, the data and the tree
+-- worker, the clients, the lists, the writes, the data, the tree and the locks
 abbrev pub NoneIsBelowText : Rule → List ℕ → List ℕ → Type 0
 NoneIsBelowText rule hierarchy_file trace_file =
     (workers text : List ℕ) (limit : Option ℕ) (other : ℕ → ℕ) → (told : IsLimitsText rule hierarchy_file trace_file workers text)
@@ -68,7 +68,7 @@ OrderIsShortestInText rule hierarchy_file trace_file =
     → KeepsOrderWhere (has_clients told.instance.trace.version) told.instance (start_of told.told.starts) other
     → told.told.limits.order ≤ length_of (work_of_instance told.instance) other
 
--- `order` is no less than `clients`, `after`, `writes`, `data` and `tree`; and without clients no plan by the rule is shorter than it
+-- `order` is no less than `clients`, `after`, `writes`, `data`, `tree` and `locks`; and without clients no plan by the rule is shorter than it
 pub record OrderIsBetween (limits : Limits) (version : Version) (listed : List Figures) : Type 0 where
   pub above : greatest_limit None limits ≤ limits.order
   pub below : has_clients version ≡ false → All (λ figures. limits.order ≤ figures.length) listed
@@ -89,21 +89,22 @@ AfterIsBetweenInText rule hierarchy_file trace_file =
     (workers text : List ℕ) → (told : IsLimitsText rule hierarchy_file trace_file workers text)
     → AfterIsBetween told.told.limits told.instance.trace.messages
 
--- where no message has a release, a think time, a client or a list, a plan that obeys in some order is as long as `tree`
+-- where no message has a release, a think time, a client or a list, and no space has locks, a plan that obeys in some order is as long as
+-- `tree`
 abbrev pub TreeIsReachedInText : Rule → List ℕ → List ℕ → Type 0
 TreeIsReachedInText rule hierarchy_file trace_file =
     (workers text : List ℕ) → (told : IsLimitsText rule hierarchy_file trace_file workers text)
-    → All StartsAtOnce told.instance.trace.messages
+    → has_locks told.accepts.layout.spaces ≡ false → All StartsAtOnce told.instance.trace.messages
     → (other : ℕ → ℕ) × ObeysInSomeOrder told.instance.tree told.instance.assigned (work_of_instance told.instance) None other
     × (length_of (work_of_instance told.instance) other ≡ told.told.limits.path.ticks)
 
--- the cells of `writes` and `data` and their ticks are those under another hierarchy; `data` there is no less than `writes`, and `tree` no
--- less than `data`
-pub record DataBounds (limits other : Limits) : Type 0 where
+-- the cell of `writes` and its ticks are those under another hierarchy, whose `data` is no less. Where no more spaces have shared locks there,
+-- the greater of `tree` and `locks` there is no less than `data`; where the same have, `data` is the same
+pub record DataBounds (spaces others : List Space) (limits other : Limits) : Type 0 where
   pub same_writes : limits.writes ≡ other.writes
   pub writes : ticks_of limits.writes ≤ ticks_of other.cell
-  pub same : limits.cell ≡ other.cell
-  pub below : ticks_of limits.cell ≤ other.path.ticks
+  pub below : SharesNoMore others spaces → ticks_of limits.cell ≤ max other.path.ticks (ticks_of other.locks)
+  pub same : SharesNoMore others spaces → SharesNoMore spaces others → limits.cell ≡ other.cell
 
 -- they are so under every hierarchy with these spaces
 abbrev pub DataBoundsTexts : Rule → Rule → List ℕ → List ℕ → List ℕ → Type 0
@@ -111,4 +112,4 @@ DataBoundsTexts rule other_rule hierarchy_file other_file trace_file =
     (workers other_workers text other : List ℕ) → (told : IsLimitsText rule hierarchy_file trace_file workers text)
     → (again : IsLimitsText other_rule other_file trace_file other_workers other)
     → SameSpaces told.accepts.layout.spaces again.accepts.layout.spaces
-    → DataBounds told.told.limits again.told.limits
+    → DataBounds told.accepts.layout.spaces again.accepts.layout.spaces told.told.limits again.told.limits

@@ -1,13 +1,16 @@
 //! The command that compares two hierarchies on one trace.
-ghost use Rattle.std.specs.Prelude.{◌≡◌, ◌≢◌, Ok, ℕ, List, IfOk, IfErr};
-ghost use Rattle.std.specs.Prelude.{string_bytes};
+ghost use Rattle.std.specs.Prelude.{◌≡◌, ◌≢◌, ◌||◌, Ok, ℕ, List, IfOk, IfErr};
+ghost use Rattle.std.specs.Prelude.{false, length, string_bytes};
 ghost use Rattle.std.specs.Thread.{IsSync};
-ghost use Rattle.waff_model.specs.Layout.{SameSpaces};
+ghost use Rattle.waff_assign.specs.Held.{AreKnown, AreUnlocked};
+ghost use Rattle.waff_assign.specs.Order.{Refines};
+ghost use Rattle.waff_model.specs.Layout.{SameSpaces, has_locks};
 ghost use Rattle.waff_model.specs.Messages.{sizes_of};
 ghost use Rattle.waff_plan.specs.Bound.{IsWorkers};
 ghost use Rattle.waff_read.specs.Hierarchies.{hierarchy_of};
 ghost use Rattle.waff_tool.specs.Comparison.{AreHierarchies, AreAssignedAndMeasured, AreModels, IsCompared};
-ghost use Rattle.waff_tool.specs.Comparison.{IsCompareText, RefusesComparison, as_models, models_in};
+ghost use Rattle.waff_tool.specs.Comparison.{IsCompareText, IsToldWhere, RefusesComparison, as_models};
+ghost use Rattle.waff_tool.specs.Comparison.{models_in};
 ghost use Rattle.waff_inputs.specs.Deliveries.{Delivers, Makes};
 ghost use Rattle.waff_inputs.specs.Inputs.{IsRefusal, trace_over};
 
@@ -16,6 +19,7 @@ use std::alloc::{AllocError, Global};
 use std::io::Write;
 use std::thread;
 use std::thread::Threads;
+use waff_assign::laws::unlocked_without_locks;
 use waff_assign::{Assigned, Case, assign, assign_by_threads};
 use waff_figures::workers_of;
 use waff_inputs::{ToolError, deliver, read_numbered, read_trace, read_trace_by_threads};
@@ -276,7 +280,8 @@ fn text_of_models(
     let (fine, of_hierarchical) = fine?;
     refined_is_no_longer();
     let (classical, hierarchical) = (&models.classical, &models.hierarchical);
-    let refined = refines(hierarchical.tree(), &fine, classical.tree(), &coarse);
+    unlocked_without_locks();
+    let refined = refinement(classical, &coarse, hierarchical, &fine);
     drop(fine);
     drop(coarse);
     comparison_text(
@@ -289,7 +294,28 @@ fn text_of_models(
     )
 }
 
-/// The affinities of the messages of the trace under a hierarchy, and what is told of it for k
+/// Whether the second hierarchy refines the first one. Nothing is told of it where one of them has locks.
+fn refinement(
+    classical: &Layout,
+    coarse: &Assigned,
+    hierarchical: &Layout,
+    fine: &Assigned,
+) -> Option<bool>
+    requires lengths { length fine.now ≡ length coarse.now }
+    requires coarse_known { AreKnown classical.now.tree coarse.now }
+    requires fine_known { AreKnown hierarchical.now.tree fine.now }
+    requires coarse_unlocked { has_locks classical.now.spaces ≡ false → AreUnlocked coarse.now }
+    requires fine_unlocked { has_locks hierarchical.now.spaces ≡ false → AreUnlocked fine.now }
+    ensures { IsToldWhere (has_locks classical.now.spaces || has_locks hierarchical.now.spaces)
+        (Refines hierarchical.now.tree fine.now classical.now.tree coarse.now) result }
+{
+    if classical.has_locks() || hierarchical.has_locks() {
+        return None;
+    }
+    Some(refines(hierarchical.tree(), fine, classical.tree(), coarse))
+}
+
+/// What the messages of the trace hold under a hierarchy, and what is told of it for k
 /// workers.
 fn measure_under(
     alloc: Global,

@@ -3,6 +3,7 @@ ghost use Rattle.std.specs.Prelude.{◌≡◌, ◌<◌, ℕ, List, IfOk};
 ghost use Rattle.std.specs.Prelude.{length, string_bytes};
 ghost use Rattle.waff_model.specs.Messages.{sizes_of};
 ghost use Rattle.waff_assign.specs.Case.{instance_of};
+ghost use Rattle.waff_assign.specs.Lowest.{IsAssignment};
 ghost use Rattle.waff_tool.specs.LimitsText.{AfterIsBetweenInText, DataBoundsTexts};
 ghost use Rattle.waff_tool.specs.LimitsText.{LimitsAreSwept, NoneIsBelowText};
 ghost use Rattle.waff_tool.specs.LimitsText.{OrderIsBetweenInText, OrderIsShortestInText};
@@ -20,8 +21,8 @@ use waff_plan::unlimited::plan;
 use waff_plan::{Planned, Workers};
 
 /// The text of what limits a case over this layout: for each of these numbers of workers their share of
-/// the costs, then what the clients, the lists of messages that are awaited, the cells, the tree of affinities
-/// and the order of service allow, and the length of the plan by this rule for each number of workers.
+/// the costs, then what the clients, the lists of messages that are awaited, the cells, the tree of affinities, the
+/// locks and the order of service allow, and the length of the plan by this rule for each number of workers.
 pub(crate) fn limited_text<R: Threads + Sync>(
     rt: &R,
     alloc: Global,
@@ -31,6 +32,7 @@ pub(crate) fn limited_text<R: Threads + Sync>(
     rule: Rule,
 ) -> Result<String, AllocError>
     requires fits { case.now.trace.now.sizes ≡ sizes_of layout.now.spaces }
+    requires assignment { IsAssignment layout.now case.now.trace.now.messages case.now.assigned.now }
     ensures { IfOk result (λ text. TellsLimits rule workers.now layout.now.spaces
         (instance_of case.now) (string_bytes text)) }
 {
@@ -39,7 +41,7 @@ pub(crate) fn limited_text<R: Threads + Sync>(
         case: *case,
         plan: &plan,
     };
-    let limits = limits_of(alloc, &planned)?;
+    let limits = limits_of(alloc, layout, &planned)?;
     let listed = list_figures(rt, alloc, &planned, rule, workers)?;
     let text = limits_text(alloc, layout, &planned, workers, &limits, listed.as_slice());
     drop(listed);
@@ -48,7 +50,7 @@ pub(crate) fn limited_text<R: Threads + Sync>(
 }
 
 /// No plan for as many workers that obeys, in whatever order it serves, is shorter than the greatest of what it tells of workers, clients,
-/// lists, cells and the tree.
+/// lists, cells, the tree and the locks.
 pub fn none_is_below_text()
     ensures { (rule : Rule) (hierarchy_file trace_file : List ℕ)
         → NoneIsBelowText rule hierarchy_file trace_file }
@@ -66,7 +68,7 @@ pub fn order_is_shortest_in_text()
         → OrderIsShortestInText rule hierarchy_file trace_file }
 {}
 
-/// What it tells of the order is no less than what it tells of clients, lists, cells and the tree, and without clients no more than it
+/// What it tells of the order is no less than what it tells of clients, lists, cells, the tree and the locks, and without clients no more than it
 /// tells of the plans.
 pub fn order_is_between()
     ensures { (rule : Rule) (hierarchy_file trace_file : List ℕ)
@@ -83,7 +85,7 @@ pub fn after_is_between()
     no_lists_add_nothing();
 }
 
-/// Where no message has a release, a think time, a client or a list, a plan that obeys in some order is as long as what it tells of the tree.
+/// Where no message has a release, a think time, a client or a list, and no space has locks, a plan that obeys in some order is as long as what it tells of the tree.
 pub fn tree_is_reached_in_text()
     ensures { (rule : Rule) (hierarchy_file trace_file : List ℕ)
         → TreeIsReachedInText rule hierarchy_file trace_file }
@@ -91,8 +93,9 @@ pub fn tree_is_reached_in_text()
     path_is_reached();
 }
 
-/// What it tells of the writes and of the data is the same under every hierarchy of the same spaces. There what it tells of the data is no
-/// less than the writes, and what it tells of the tree no less than the data.
+/// What it tells of the writes is the same under every hierarchy of the same spaces, whatever their locks, and there what it tells of the
+/// data is no less. Where no more spaces have shared locks, the greater of what it tells there of the tree and of the locks is no less than
+/// the data; where the same have, the data are the same.
 pub fn data_bounds_texts()
     ensures { (rule other_rule : Rule) (hierarchy_file other_file trace_file : List ℕ)
         → DataBoundsTexts rule other_rule hierarchy_file other_file trace_file }

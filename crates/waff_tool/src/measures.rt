@@ -97,14 +97,18 @@ pub fn comparison_text(
     k: u32,
     classical: &Measured,
     hierarchical: &Measured,
-    refined: bool,
+    refined: Option<bool>,
 ) -> Result<String, AllocError>
     ensures { IfOk result (λ text. string_bytes text
         ≡ text_of (compare_lines version k classical.now.unlimited.total
         classical.now hierarchical.now refined)) }
 {
     let total = classical.unlimited.total;
-    let answer = if refined { "yes" } else { "no" };
+    let answer = match refined {
+        Some(true) => "yes",
+        Some(false) => "no",
+        None => "-",
+    };
     let mut text = String::new(alloc);
     writeln!(text, "workers,{k}\ntotal,{total}")?;
     push_header(&mut text, version)?;

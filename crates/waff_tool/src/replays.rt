@@ -3,7 +3,7 @@
 ghost use Rattle.std.specs.Prelude.{◌≡◌, ◌≢◌, ◌^◌, ◌<◌, ◌≤◌, false, IfErr, IfOk, Ok};
 ghost use Rattle.std.specs.Prelude.{length, string_bytes};
 ghost use Rattle.std.specs.List.{range_with_len};
-ghost use Rattle.waff_model.specs.Layout.{HasFewCells};
+ghost use Rattle.waff_model.specs.Layout.{HasFewCells, Hierarchy, has_locks, unlocked};
 ghost use Rattle.waff_model.specs.Messages.{IsTrace, sizes_of};
 ghost use Rattle.waff_model.specs.declared.cell.Cell.{Cell};
 ghost use Rattle.waff_model.specs.Versions.{has_clients};
@@ -15,7 +15,7 @@ ghost use Rattle.waff_core.specs.Seats.{IsSeats};
 ghost use Rattle.waff_order.specs.Needs.{AreNeeds};
 ghost use Rattle.waff_plan_text.specs.Lines.{text_of};
 ghost use Rattle.waff_inputs.specs.Deliveries.{Delivers, Makes};
-ghost use Rattle.waff_inputs.specs.Inputs.{Accepts, instance_under};
+ghost use Rattle.waff_inputs.specs.Known.{trace_of};
 ghost use Rattle.waff_read.specs.Hierarchies.{hierarchy_of};
 ghost use Rattle.waff_tool.specs.ListOrder.{IsListOrder, IsReplayOrder};
 ghost use Rattle.waff_tool.specs.PrintedSpaces.{AreAllPrinted};
@@ -85,17 +85,21 @@ fn made_replay_text<R: Threads + Wait + Sync>(
     }
 }
 
-/// Reads the files, the trace only where there are few enough cells for a replay.
-#[tactic(auto, using(crate::proofs::ReplayRefusals::refuses_hierarchy, crate::proofs::ReplayRefusals::refuses_cells, crate::proofs::ReplayRefusals::refuses_trace))]
+/// Reads the files, the trace only where there are few enough cells for a replay, and over the layout
+/// without locks: a lock changes no state, so a replay needs none.
+#[tactic(auto, using(crate::proofs::ReplayRefusals::refuses_hierarchy, crate::proofs::ReplayRefusals::refuses_cells, crate::proofs::UnlockedReplays::refuses_unlocked))]
 fn accept_few<R: Threads + Sync>(
     rt: &R,
     alloc: Global,
     hierarchy: &[u8],
     trace: &[u8],
 ) -> Result<Accepted, ToolError>
-    ensures accepted { IfOk result (λ a.
-        Accepts hierarchy.now trace.now (instance_under a.layout a.assigned a.trace)) }
-    ensures layout { IfOk result (λ a. hierarchy_of hierarchy.now ≡ Ok a.layout) }
+    ensures layout { IfOk result (λ a. (layout : Hierarchy)
+        × (hierarchy_of hierarchy.now ≡ Ok layout) × (a.layout ≡ unlocked layout)) }
+    ensures trace { IfOk result (λ a. trace_of a.layout.spaces trace.now ≡ Ok a.trace) }
+    ensures assignment { IfOk result (λ a.
+        IsAssignment a.layout a.trace.messages a.assigned) }
+    ensures unlocked { IfOk result (λ a. has_locks a.layout.spaces ≡ false) }
     ensures few { IfOk result (λ a. HasFewCells a.layout.spaces) }
     ensures refused { IfErr result (RefusesReplay hierarchy.now trace.now) }
     ensures nothing { IfErr result (λ e. e ≢ ToolError.Write) }
@@ -108,7 +112,7 @@ fn accept_few<R: Threads + Sync>(
         drop(layout);
         return Err(ToolError::TooManyCells);
     }
-    match accept_over_layout(rt, alloc, layout, trace) {
+    match accept_over_layout(rt, alloc, layout.without_locks(), trace) {
         Ok(accepted) => Ok(accepted),
         Err(error) => Err(error),
     }
@@ -125,6 +129,7 @@ fn replayed_text<R: Threads + Wait + Sync>(
     requires few { HasFewCells accepted.layout.spaces }
     requires trace { IsTrace accepted.trace }
     requires assignment { IsAssignment accepted.layout accepted.trace.messages accepted.assigned }
+    requires unlocked { has_locks accepted.layout.spaces ≡ false }
     requires printed { AreAllPrinted accepted.layout.spaces printed.now }
     requires few_printed { length printed.now ≤ MAX_SPACES }
     requires seats { IsSeats workers }
@@ -148,6 +153,7 @@ fn replayed<R: Threads + Wait + Sync>(
     requires few { HasFewCells accepted.layout.spaces }
     requires trace { IsTrace accepted.trace }
     requires assignment { IsAssignment accepted.layout accepted.trace.messages accepted.assigned }
+    requires unlocked { has_locks accepted.layout.spaces ≡ false }
     requires seats { IsSeats workers }
     ensures sizes { IfOk result (λ state. HasSizes state (sizes_of accepted.layout.spaces)) }
     ensures cells { IfOk result (λ state. (cell : Cell)
@@ -167,6 +173,7 @@ fn job_in_replay_order(alloc: Global, accepted: Accepted, k: u32) -> Result<Job,
     requires few { HasFewCells accepted.layout.spaces }
     requires trace { IsTrace accepted.trace }
     requires assignment { IsAssignment accepted.layout accepted.trace.messages accepted.assigned }
+    requires unlocked { has_locks accepted.layout.spaces ≡ false }
     requires seats { IsSeats k }
     ensures layout { IfOk result (λ job. job.layout ≡ accepted.layout) }
     ensures ops { IfOk result (λ job. job.ops ≡ operations accepted.trace.messages) }
@@ -196,6 +203,7 @@ fn job_in_order(
     requires few { HasFewCells accepted.layout.spaces }
     requires trace { IsTrace accepted.trace }
     requires assignment { IsAssignment accepted.layout accepted.trace.messages accepted.assigned }
+    requires unlocked { has_locks accepted.layout.spaces ≡ false }
     requires needs { AreNeeds accepted.layout.tree accepted.assigned needs }
     requires order { IsOrder needs order.now }
     ensures layout { IfOk result (λ job. job.layout ≡ accepted.layout) }

@@ -19,6 +19,7 @@ use std::io::Write;
 use std::thread::Threads;
 use waff_figures::Told;
 use waff_inputs::{Accepted, ToolError, accept_by_threads, deliver};
+use waff_locks::{Wanted, locks_text};
 use waff_plan::Workers;
 
 /// Writes what is asked of the trace under the hierarchy. Nothing is written before the whole text is
@@ -84,7 +85,8 @@ fn text_of<R: Threads + Sync>(
             )
         }
         Told::Where(workers, rule, label, columns) => {
-            spent_text(alloc, &case, *workers, *rule, *label, *columns)
+            let locks = accepted.layout.has_locks();
+            spent_text(alloc, &case, *workers, *rule, *label, *columns, locks)
         }
         Told::Waits(workers, rule, grouping) => {
             waited_text(alloc, &case, *workers, *rule, Waiting::Rows(*grouping))
@@ -93,6 +95,15 @@ fn text_of<R: Threads + Sync>(
             waited_text(alloc, &case, *workers, *rule, Waiting::Worst(*most))
         }
         Told::Why(grouping) => lifted_text(alloc, accepted, *grouping),
+        Told::Locks(workers, rule, kind, steps) => {
+            let wanted = Wanted {
+                workers: *workers,
+                rule: *rule,
+                kind: *kind,
+                steps: *steps,
+            };
+            locks_text(rt, alloc, &accepted.layout, &accepted.trace, &wanted)
+        }
     }
 }
 

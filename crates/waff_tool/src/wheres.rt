@@ -19,7 +19,8 @@ use waff_plan::{Planned, Workers};
 /// The text of where the time of a case goes in its plan for this number of workers by this rule, or with
 /// no limit on them, where the rule changes nothing: for each affinity, or for each name or client of
 /// messages, how many messages there are and what they cost, and how much of that is on the chain of the
-/// plan; with figures also how many of them run at once, and how long they wait and take.
+/// plan; with figures also how many of them run at once, and how long they wait and take. Under a hierarchy with locks the
+/// last line by affinity tells of the messages that have none.
 pub(crate) fn spent_text(
     alloc: Global,
     case: &Case<'_>,
@@ -27,13 +28,14 @@ pub(crate) fn spent_text(
     rule: Rule,
     label: Option<Label>,
     columns: Columns,
+    locks: bool,
 ) -> Result<String, AllocError>
     ensures { IfOk result (λ text.
-        TellsWhere rule workers label columns (instance_of case.now) (string_bytes text)) }
+        TellsWhere locks rule workers label columns (instance_of case.now) (string_bytes text)) }
 {
     match workers {
-        None => unlimited_text(alloc, case, label, columns),
-        Some(k) => worker_text(alloc, case, k, rule, label, columns),
+        None => unlimited_text(alloc, case, label, columns, locks),
+        Some(k) => worker_text(alloc, case, k, rule, label, columns, locks),
     }
 }
 
@@ -43,16 +45,24 @@ fn unlimited_text(
     case: &Case<'_>,
     label: Option<Label>,
     columns: Columns,
+    locks: bool,
 ) -> Result<String, AllocError>
     ensures { IfOk result (λ text. (rule : Rule)
-        → TellsWhere rule None label columns (instance_of case.now) (string_bytes text)) }
+        → TellsWhere locks rule None label columns (instance_of case.now) (string_bytes text)) }
 {
     let certified = certified_plan(alloc, case)?;
     let planned = Planned {
         case: *case,
         plan: &certified.plan,
     };
-    let text = planned_text(alloc, &planned, certified.chain.messages(), label, columns);
+    let text = planned_text(
+        alloc,
+        &planned,
+        certified.chain.messages(),
+        label,
+        columns,
+        locks,
+    );
     drop(certified);
     text
 }
@@ -65,14 +75,22 @@ fn worker_text(
     rule: Rule,
     label: Option<Label>,
     columns: Columns,
+    locks: bool,
 ) -> Result<String, AllocError>
     ensures { IfOk result (λ text.
-        TellsWhere rule (Some k) label columns (instance_of case.now) (string_bytes text)) }
+        TellsWhere locks rule (Some k) label columns (instance_of case.now) (string_bytes text)) }
 {
     let bounded = bounded_plan(alloc, case, rule, k)?;
     let plan = bounded.made.plan();
     let planned = Planned { case: *case, plan };
-    let text = planned_text(alloc, &planned, bounded.chain.messages(), label, columns);
+    let text = planned_text(
+        alloc,
+        &planned,
+        bounded.chain.messages(),
+        label,
+        columns,
+        locks,
+    );
     drop(bounded);
     text
 }
@@ -84,13 +102,14 @@ fn planned_text(
     chain: &[u32],
     label: Option<Label>,
     columns: Columns,
+    locks: bool,
 ) -> Result<String, AllocError>
     requires chain { IsListed (planned_work planned.now).count chain.now }
-    ensures { IfOk result (λ text. TellsSpent label columns (instance_of planned.now.case)
+    ensures { IfOk result (λ text. TellsSpent locks label columns (instance_of planned.now.case)
         (planned_starts planned.now) chain.now (string_bytes text)) }
 {
     match label {
-        None => text_by_affinity(alloc, planned, chain, columns),
+        None => text_by_affinity(alloc, planned, chain, columns, locks),
         Some(label) => text_by_label(alloc, planned, chain, label, columns),
     }
 }
@@ -101,16 +120,17 @@ fn text_by_affinity(
     planned: &Planned<'_>,
     chain: &[u32],
     columns: Columns,
+    locks: bool,
 ) -> Result<String, AllocError>
     requires chain { IsListed (planned_work planned.now).count chain.now }
-    ensures { IfOk result (λ text. TellsAffinities columns (instance_of planned.now.case)
+    ensures { IfOk result (λ text. TellsAffinities locks columns (instance_of planned.now.case)
         (planned_starts planned.now) chain.now (string_bytes text)) }
 {
     let _affinities = planned.case.tree.len();
     costs_add_up();
     chain_adds_up();
     affinity_waits_add_up();
-    affinities_text(alloc, planned, chain, columns)
+    affinities_text(alloc, planned, chain, columns, locks)
 }
 
 /// The text by a label of messages.

@@ -1,4 +1,4 @@
-use Rattle.waff_limits.proofs.Sharing.{writes_below}
+use Rattle.waff_limits.proofs.SharedCells.{writes_below}
 use Rattle.waff_limits.proofs.laws.writes_bound_data.Goals as goal
 
 pub returns : goal.returns

@@ -1,9 +1,8 @@
-use Rattle.std.proofs.Common.{refl, sym, subst}
+use Rattle.std.proofs.Common.{Some, refl, sym, subst}
 use Rattle.waff_model.specs.Cells.{cells_of}
-use Rattle.waff_assign.specs.Lowest.{IsInFootprint, IsLowest}
-use Rattle.waff_assign.specs.Order.{affinity_of}
+use Rattle.waff_assign.specs.Lowest.{IsAffinityOf}
 use Rattle.waff_assign.proofs.Assignments.{cells_of_layout}
-use Rattle.waff_limits.specs.Lifted.{AreLifting, IsInner}
+use Rattle.waff_limits.specs.Lifted.{IsHighIn}
 use Rattle.waff_limits.proofs.InnerLemmas.{marked_within}
 use Rattle.waff_limits.proofs.LiftedLists.{is_lift}
 use Rattle.waff_limits.proofs.lifted.lift_of.Goals as goal
@@ -18,10 +17,22 @@ other_cell-other-requires-clause-cells c =
     let laid = c.args.laid.now in
     cells_of_layout laid.case.trace.now.sizes laid.layout.now.spaces (cells_of c.message-message.result.now.ops) laid.fits c.message-message.ensures.within.cells
 
+-- the affinity is the lowest that covers the cells without locks, of which there is one
+pub first_cell-cell-requires-clause-some : goal.first_cell-cell-requires-clause-some
+first_cell-cell-requires-clause-some c =
+    let message = c.message-message.result.now in
+    let held = c.requires.assignment.each c.args.n message c.requires.number.from c.message-message.ensures.message in
+    let affinity : IsAffinityOf c.args.laid.now.layout.now message.ops (Some c.in_ok-affinity.affinity.0)
+    = subst (IsAffinityOf c.args.laid.now.layout.now message.ops) (sym c.in_ok-affinity.ensures) held.affinity in
+    affinity.0
+
 pub other_cell-other-requires-clause-lowest : goal.other_cell-other-requires-clause-lowest
 other_cell-other-requires-clause-lowest c =
-    subst (λ a. IsLowest c.args.laid.now.layout.now (IsInFootprint c.message-message.result.now.ops) a) (sym c.of-affinity.ensures)
-    (c.requires.assignment.lowest c.args.n c.requires.number.from c.message-message.result.now c.message-message.ensures.message)
+    let message = c.message-message.result.now in
+    let held = c.requires.assignment.each c.args.n message c.requires.number.from c.message-message.ensures.message in
+    let affinity : IsAffinityOf c.args.laid.now.layout.now message.ops (Some c.in_ok-affinity.affinity.0)
+    = subst (IsAffinityOf c.args.laid.now.layout.now message.ops) (sym c.in_ok-affinity.ensures) held.affinity in
+    affinity.1
 
 pub returns : goal.returns
 returns c =
@@ -29,11 +40,15 @@ returns c =
     let layout = laid.layout.now in
     let assigned = laid.case.assigned.now in
     let message = c.message-message.result.now in
+    let a = c.in_ok-affinity.affinity.0 in
     let cell = c.first_cell-cell.result in
     let other = c.other_cell-other.result in
-    let lifting = subst (λ a. AreLifting layout (IsInFootprint message.ops) a cell other) c.of-affinity.ensures c.other_cell-other.ensures.lifting in
-    let inner : IsInner layout.tree (affinity_of assigned c.args.n) = subst (IsInner layout.tree) c.of-affinity.ensures ((c.requires.inner.each c.of-affinity.result.0 (marked_within c.args.inner.now laid.layout.now.tree c.of-affinity.result.0 c.requires.inner.long c.if-not-inner-affinity.false)).0 c.if-not-inner-affinity.false) in (
+    let marked = marked_within c.args.inner.now layout.tree a c.requires.inner.long c.if-not-inner-affinity.false in
+    let high : IsHighIn layout.tree assigned c.args.n a = record {
+      affinity = sym c.in_ok-affinity.ensures;
+      inner = (c.requires.inner.each a marked).0 c.if-not-inner-affinity.false;
+    } in (
       refl,
       record { message = c.requires.number; cell = c.first_cell-cell.ensures.within; other = c.other_cell-other.ensures.within },
-      is_lift layout laid.case.trace.now.messages assigned c.args.n message c.message-message.ensures.message cell other c.requires.number inner lifting,
+      is_lift layout laid.case.trace.now.messages assigned c.args.n message c.message-message.ensures.message cell other a c.requires.number high c.other_cell-other.ensures.lifting,
     )

@@ -1,3 +1,4 @@
+use Rattle.std.specs.Prelude.{option_map}
 use Rattle.std.proofs.Common.{◌≡◌, ◌++◌, ◌&&◌, not, Contains, sym, ◌∙◌, ap, ap₂, subst}
 use Rattle.std.specs.List.{dedup, list_any}
 use Rattle.std.proofs.lemmas.List.Filters.{dedup_is}
@@ -6,10 +7,13 @@ use Rattle.std.proofs.lemmas.List.Sorted.{Contains-permutation, IsPermutation-sy
 use Rattle.std.proofs.lemmas.Result.{on_ok_weaker}
 use Rattle.waff_model.specs.declared.cell.Cell.{Cell}
 use Rattle.waff_assign.proofs.CellOrder.{cell_cmp_total, cell_eq, cell_eq_equiv, cell_eq_same, cell_eq_ties}
+use Rattle.std.proofs.lemmas.Option.{IfSome_then}
+use Rattle.waff_assign.proofs.Assignments.{cells_of_layout}
+use Rattle.waff_model.specs.Cells.{cells_of}
+use Rattle.waff_limits.specs.Writes.{cells_alone}
 use Rattle.waff_limits.specs.Data.{is_cell}
 use Rattle.waff_limits.specs.Edges.{edges_of}
 use Rattle.waff_limits.specs.Readings.{readings_of}
-use Rattle.waff_limits.specs.Writes.{cells_written}
 use Rattle.waff_limits.proofs.EdgeLemmas.{same_used}
 use Rattle.waff_limits.proofs.SkyLemmas.{same_read}
 use Rattle.waff_limits.proofs.Uses.{has_same}
@@ -22,47 +26,53 @@ add_all-requires c =
     let is : c.dedup.new.self.items ≡ dedup cell_eq sorted = dedup_is cell_eq sorted c.dedup.new.self.items c.dedup.ensures.filtered in
     record { rising = rw (c.as_slice-3.ensures.value, is) (IsStrictlySortedBy-dedup cell_cmp_total cell_eq_ties sorted c.sort_unstable.ensures.sorted) }
 
-pub returns-clause-written : goal.returns-clause-written
-returns-clause-written c =
+pub returns-clause-alone : goal.returns-clause-alone
+returns-clause-alone c =
     let messages = c.args.trace.now.messages in
     let message = c.message-message.result.now in
-    let pushed = c.push_written.new.cells.items in
+    let pushed = c.push_alone.new.cells.items in
     let sorted = c.sort_unstable.new.self.items in
     let moved = c.sort_unstable.ensures.permutation in
-    let cells : pushed ≡ cells_written message.ops = c.in_ok-push_written.ensures ∙ ap (λ xs. xs ++ cells_written message.ops) c.new-own.ensures.items in
+    let cells : pushed ≡ cells_alone (option_map (λ l. l.now.spaces) c.args.sharing) message.ops = c.in_ok-push_alone.ensures ∙ ap (λ xs. xs ++ cells_alone (option_map (λ l. l.now.spaces) c.args.sharing) message.ops) c.new-own.ensures.items in
     let is : c.as_slice-3.result.now ≡ dedup cell_eq sorted
     = c.as_slice-3.ensures.value ∙ dedup_is cell_eq sorted c.dedup.new.self.items c.dedup.ensures.filtered in
-    let same : (cell : Cell) → list_any (is_cell cell) c.as_slice-3.result.now ≡ list_any (is_cell cell) (cells_written message.ops) = λ cell.
+    let same : (cell : Cell) → list_any (is_cell cell) c.as_slice-3.result.now ≡ list_any (is_cell cell) (cells_alone (option_map (λ l. l.now.spaces) c.args.sharing) message.ops) = λ cell.
     ap (list_any (is_cell cell)) is
-    ∙ any_same (dedup cell_eq sorted) (cells_written message.ops)
+    ∙ any_same (dedup cell_eq sorted) (cells_alone (option_map (λ l. l.now.spaces) c.args.sharing) message.ops)
     (λ x there. subst (λ xs. Contains xs x) cells (Contains-permutation sorted pushed x (IsPermutation-sym pushed sorted moved) (Contains-from_dedup cell_eq sorted x there)))
     (λ x there. Contains-dedup cell_eq_equiv cell_eq_same sorted x (Contains-permutation pushed sorted x moved (subst (λ xs. Contains xs x) (sym cells) there)))
     cell in
     on_ok_weaker c.add_all.result
     (λ told are. same_used (edges_of c.add_all.new.self) _ _
-    (λ cell. written_by messages c.args.n message c.requires.number c.message-message.ensures.message cell (list_any (is_cell cell) c.as_slice-3.result.now) (same cell))
+    (λ cell. written_by (option_map (λ l. l.now.spaces) c.args.sharing) messages c.args.n message c.requires.number c.message-message.ensures.message cell (list_any (is_cell cell) c.as_slice-3.result.now) (same cell))
     (told _ are))
     c.add_all.ensures
 
-pub returns-clause-read : goal.returns-clause-read
-returns-clause-read c =
+pub returns-clause-shared : goal.returns-clause-shared
+returns-clause-shared c =
     let messages = c.args.trace.now.messages in
     let message = c.message-message.result.now in
-    let pushed = c.push_written.new.cells.items in
+    let pushed = c.push_alone.new.cells.items in
     let sorted = c.sort_unstable.new.self.items in
     let moved = c.sort_unstable.ensures.permutation in
-    let cells : pushed ≡ cells_written message.ops = c.in_ok-push_written.ensures ∙ ap (λ xs. xs ++ cells_written message.ops) c.new-own.ensures.items in
-    let own : (cell : Cell) → list_any (is_cell cell) c.as_slice-2.result.now ≡ list_any (is_cell cell) (cells_written message.ops) = λ cell.
+    let cells : pushed ≡ cells_alone (option_map (λ l. l.now.spaces) c.args.sharing) message.ops = c.in_ok-push_alone.ensures ∙ ap (λ xs. xs ++ cells_alone (option_map (λ l. l.now.spaces) c.args.sharing) message.ops) c.new-own.ensures.items in
+    let own : (cell : Cell) → list_any (is_cell cell) c.as_slice-2.result.now ≡ list_any (is_cell cell) (cells_alone (option_map (λ l. l.now.spaces) c.args.sharing) message.ops) = λ cell.
     ap (list_any (is_cell cell)) c.as_slice-2.ensures.value
-    ∙ any_same sorted (cells_written message.ops)
+    ∙ any_same sorted (cells_alone (option_map (λ l. l.now.spaces) c.args.sharing) message.ops)
     (λ x there. subst (λ xs. Contains xs x) cells (Contains-permutation sorted pushed x (IsPermutation-sym pushed sorted moved) there))
     (λ x there. Contains-permutation pushed sorted x moved (subst (λ xs. Contains xs x) (sym cells) there))
     cell in
     on_ok_weaker c.add_all.result
     (λ told are. same_read (readings_of c.add_others.new.self) _ _
-    (λ cell. read_by messages c.args.n message c.requires.number c.message-message.ensures.message cell
+    (λ cell. read_by (option_map (λ l. l.now.spaces) c.args.sharing) messages c.args.n message c.requires.number c.message-message.ensures.message cell
     (list_any (is_cell cell) c.as_slice.result.now && not (list_any (is_cell cell) c.as_slice-2.result.now))
     (ap₂ (λ a b. a && not b) (ap (list_any (is_cell cell)) c.as_slice.ensures.value
     ∙ has_same messages c.args.n message c.in_ok-cells.cells.items cell c.message-message.ensures.message c.in_ok-cells.ensures) (own cell)))
     (c.in_ok-add_others.ensures _ are))
     c.add_all.ensures
+
+pub push_alone-requires : goal.push_alone-requires
+push_alone-requires c = record {
+  cells = IfSome_then c.args.sharing c.requires.fits
+      (λ layout fits. cells_of_layout c.args.trace.now.sizes layout.now.spaces (cells_of c.message-message.result.now.ops) fits c.message-message.ensures.within.cells);
+}

@@ -12,13 +12,14 @@ use Rattle.waff_list.specs.Served.{IsPlanServed}
 use Rattle.waff_list.specs.declared.rule.Rule.{Rule}
 use Rattle.waff_list.proofs.RuleLemmas.{rule_over_pairs}
 use Rattle.waff_list.proofs.list.list_plan_of.Goals as goal
+use Rattle.waff_assign.specs.Held.{Held}
 
 then : {X E : Type 0} (P Q : X → Type 0) (r : Result X E) → ((x : X) → P x → Q x) → IfOk r P → IfOk r Q
 then P Q (Ok x) follows h = follows x h
 then P Q (Err e) follows h = tt
 
 -- without clients what comes first in the trace is served first
-served : (version : Version) (rule : Rule) (tree : List Node) (assigned : List ℕ) (work : Work) (k : ℕ) (start : ℕ → ℕ) → has_clients version ≡ false
+served : (version : Version) (rule : Rule) (tree : List Node) (assigned : List Held) (work : Work) (k : ℕ) (start : ℕ → ℕ) → has_clients version ≡ false
     → IsPlanBy rule (IsOrdered tree assigned) work k start → IsPlanServed version rule tree assigned work k start
 served V1 rule tree assigned work k start without plan = plan
 served V2 rule tree assigned work k start without plan = plan

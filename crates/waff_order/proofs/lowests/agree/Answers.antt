@@ -12,11 +12,12 @@ loop-a-preserved-in_default c =
 
 pub returns-in_default-lower : goal.returns-in_default-lower
 returns-in_default-lower c =
-    let is : above_of c.args.tree.now c.loop-a.lowests c.loop-a.a ≡ Some c.in-Some.above = sym c.noted_above.ensures ∙ c.in-Some.is in (
-      λ t. absurd (false≢true t),
-      λ agree. absurd (carried_apart c.args.tree.now c.args.coarse_tree.now c.args.lowests.now c.len-a-end.ensures.tree.rooted c.loop-a.a
-          c.loop-a.lowests c.in-Some.above is c.in_default-lower.ensures c.loop-a.invariant agree),
-    )
+    let is : above_of c.args.tree.now c.loop-a.lowests c.loop-a.a ≡ Some c.in-Some.above = sym c.noted_above.ensures ∙ c.in-Some.is in
+    record {
+      agree = λ t. absurd (false≢true t);
+      all = λ agree. absurd (carried_apart c.args.tree.now c.args.coarse_tree.now c.args.lowests.now c.len-a-end.ensures.tree.rooted c.loop-a.a
+          c.loop-a.lowests c.in-Some.above is c.in_default-lower.ensures.0 c.loop-a.invariant (agree c.in_default-lower.ensures.1));
+    }
 
 pub loop-a-preserved : goal.loop-a-preserved
 loop-a-preserved c =
@@ -26,7 +27,8 @@ loop-a-preserved c =
     c.in-Some.above c.in-Some-lower.low within is c.in-Some-lower.ensures c.loop-a.invariant
 
 pub returns : goal.returns
-returns c = (
-  λ _. carried_all c.args.tree.now c.args.coarse_tree.now c.args.lowests.now c.loop-a.a c.loop-a.lowests (let done = c.loop-a-test.false in omega (arith, done, c.requires.count, c.len-a-end.ensures.count)) c.loop-a.invariant,
-  λ _. refl,
-)
+returns c = record {
+  agree = λ _. carried_all c.args.tree.now c.args.coarse_tree.now c.args.lowests.now c.loop-a.a c.loop-a.lowests
+      (let done = c.loop-a-test.false in omega (arith, done, c.requires.count, c.len-a-end.ensures.count)) c.loop-a.invariant;
+  all = λ _. refl;
+}

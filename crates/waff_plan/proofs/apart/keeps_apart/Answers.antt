@@ -12,9 +12,10 @@ use Rattle.waff_plan.specs.declared.sequence.Started.{Started}
 use Rattle.waff_plan.proofs.Sequences.{apart_kept, pairs_apart, started_messages}
 use Rattle.waff_plan.proofs.ServingLemmas.{each_runs}
 use Rattle.waff_plan.proofs.apart.keeps_apart.Goals as goal
+use Rattle.waff_assign.specs.Held.{Held}
 
 -- what the pairs of a plan tell
-module _ (tree : List Node) (assigned : List ℕ) (plan : Timetable) (table : IsTimetable plan) (same : length plan.timings ≡ length assigned) (count : ℕ) (started : List Started)
+module _ (tree : List Node) (assigned : List Held) (plan : Timetable) (table : IsTimetable plan) (same : length plan.timings ≡ length assigned) (count : ℕ) (started : List Started)
     (are : AreByStart (work_in plan) (starts_in plan) started) where
   abbrev Kept : ℕ → ℕ → ℕ → Type 0
   Kept from to last = KeepsPairs tree assigned (work_in plan) (starts_in plan) started (record { from = from; to = to; last = last })
@@ -38,7 +39,7 @@ messages : (plan : Timetable) (started : List Started) → AreByStart (work_in p
 messages plan started are = started_messages (work_in plan) (starts_in plan) started are
 
 -- so many they are
-last_is : (tree : List Node) (assigned : List ℕ) (plan : Timetable) (started : List Started) (count n : ℕ) (kept : Bool) → n ≡ length plan.timings
+last_is : (tree : List Node) (assigned : List Held) (plan : Timetable) (started : List Started) (count n : ℕ) (kept : Bool) → n ≡ length plan.timings
     → IsTrue kept ↔ KeepsPairs tree assigned (work_in plan) (starts_in plan) started (record { from = 1; to = count; last = n })
     → IsTrue kept ↔ KeepsPairs tree assigned (work_in plan) (starts_in plan) started (record { from = 1; to = count; last = length plan.timings })
 last_is tree assigned plan started count n kept is =

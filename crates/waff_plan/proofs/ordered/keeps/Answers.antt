@@ -1,15 +1,13 @@
 -- Each message is looked at with the latest of the noted ones that exclude it.
 use Rattle.std.proofs.Common.{◌≡◌, ℕ, ◌<◌, ◌≤◌, [], ◌∷◌, ◌++◌, List, length, IfSome, option_map, arith, refl, sym, ◌∙◌, ap}
-use Rattle.waff_model.specs.Preorder.{span_at}
-use Rattle.waff_assign.specs.Order.{affinity_of}
 use Rattle.waff_plan.specs.ByStart.{started_at, walk_of}
 use Rattle.waff_plan.specs.Table.{IsLatestExcluding}
 use Rattle.waff_plan.specs.Timetable.{starts_in, work_in}
-use Rattle.waff_plan.specs.Work.{IsAmongFirst, finish_of}
+use Rattle.waff_plan.specs.Work.{finish_of}
 use Rattle.waff_plan.specs.declared.sequence.Started.{Started}
 use Rattle.waff_plan.proofs.Noted.{none_noted, noted_more, noted_passed}
 use Rattle.waff_plan.proofs.Sequences.{keeps_more, latest_finished}
-use Rattle.waff_plan.proofs.Tables.{found_noted_at}
+use Rattle.waff_plan.proofs.Tables.{excluding_under}
 use Rattle.waff_plan.proofs.ordered.keeps.Goals as goal
 use Rattle.waff_plan.proofs.ordered.keeps.Goals.{After-latest_for, else-notes, then-notes}
 
@@ -18,8 +16,9 @@ loop-place-init c = record {
   noted = [];
   are_noted = none_noted _ _;
   kept = λ p q pair less. absurd (omega (arith, less));
-  table = c.in_ok-table.ensures.table c.spans-spans.result.now c.args.assigned.now _;
-  spans = c.in_ok-table.ensures.count ∙ c.len.ensures.count;
+  table = c.in_ok-table.ensures.table _;
+  tree = c.in_ok-table.ensures.tree;
+  assigned = c.in_ok-table.ensures.assigned;
 }
 
 abbrev sequence : After-latest_for → List Started
@@ -36,23 +35,23 @@ within c = omega (arith, c.loop-place-test.true, c.len-place-end.ensures.count, 
 m_is : (c : After-latest_for) → (started_at (sequence c) c.loop-place.place).number ≡ c.number_at-m.result
 m_is c = sym (c.number_at-m.ensures (length c.args.plan.now.timings) (omega (arith, within c, c.requires.sequence.long)))
 
-known : (c : After-latest_for) → IsAmongFirst (length c.args.assigned.now) c.number_at-m.result
-known c =
-    let number = c.requires.sequence.number c.loop-place.place (within c) in
-    record { from = omega (arith, m_is c, number.from); to = omega (arith, m_is c, number.to, c.requires.lengths) }
-
 -- the latest of the noted messages that exclude it
 found : (c : After-latest_for) → c.number_at-m.result ≤ c.args.pairs.last
     → IsLatestExcluding c.args.tree.now c.args.assigned.now (finish_of (work_in c.args.plan.now) (starts_in c.args.plan.now)) c.loop-place.invariant.noted
-    (affinity_of c.args.assigned.now c.number_at-m.result) c.latest_for.result
+    c.number_at-m.result c.latest_for.result
 found c upto =
-    found_noted_at c.args.tree.now c.spans-spans.result.now c.args.assigned.now _ c.loop-place.invariant.noted c.number_at-m.result c.of.result.0 c.loop-place.table c.latest_for.result
-    c.spans-spans.ensures c.requires.known
-    (λ i there.
-    let at = c.loop-place.invariant.are_noted.each i there in
-    let number = c.requires.sequence.number at.0 (omega (arith, at.1, within c)) in
-    record { from = omega (arith, at.2, number.from); to = omega (arith, at.2, number.to, c.requires.lengths) })
-    (known c) c.of.ensures c.loop-place.invariant.table (c.latest_for.ensures.latest upto)
+    let h = c.loop-place.invariant in
+    excluding_under c.args.tree.now c.args.assigned.now c.loop-place.table _ h.noted c.number_at-m.result c.latest_for.result h.tree h.assigned
+    (c.latest_for.ensures.latest upto _ h.noted h.table)
+
+pub latest_for-requires : goal.latest_for-requires
+latest_for-requires c =
+    let sequence = walk_of (length c.args.plan.now.timings) (option_map (λ list. list.items) c.args.sequence.now) in
+    let within : c.loop-place.place < length sequence = omega (arith, c.loop-place-test.true, c.len-place-end.ensures.count, c.requires.sequence.long) in
+    let m_is = c.number_at-m.ensures (length c.args.plan.now.timings) (omega (arith, within, c.requires.sequence.long)) in
+    let number = c.requires.sequence.number c.loop-place.place within in
+    let assigned = ap length c.loop-place.invariant.assigned in
+    record { number = record { from = omega (arith, m_is, number.from); to = omega (arith, m_is, number.to, c.requires.lengths, assigned) } }
 
 pub returns-then-not-is_finished_by : goal.returns-then-not-is_finished_by
 returns-then-not-is_finished_by c =
@@ -80,16 +79,17 @@ loop-place-preserved c =
         noted = h.noted ++ m ∷ [];
         are_noted = noted_more (sequence s) (begins s) c.loop-place.place m h.noted (m_is s) h.are_noted (c.notes.ensures.0 w.if-notes.true);
         kept = kept;
-        table = w.note.ensures.table c.spans-spans.result.now c.args.assigned.now finish h.noted h.table
-            (ap (span_at c.spans-spans.result.now) (sym c.of.ensures)) (sym w.finish-finish.ensures.finish);
-        spans = w.note.ensures.count ∙ h.spans;
+        table = w.note.ensures.table finish h.noted h.table (sym w.finish-finish.ensures.finish);
+        tree = w.note.ensures.tree ∙ h.tree;
+        assigned = w.note.ensures.assigned ∙ h.assigned;
       })
       | else-notes w ↦ rw w.table-is (record {
         noted = h.noted;
         are_noted = noted_passed (sequence s) (begins s) c.loop-place.place m h.noted (m_is s) h.are_noted (λ of. absurd (cc (c.notes.ensures.1 of, w.if-notes.false)));
         kept = kept;
         table = h.table;
-        spans = h.spans;
+        tree = h.tree;
+        assigned = h.assigned;
       })
     ]
 

@@ -12,6 +12,7 @@ invariant-loop-place l = record {
   noted : List ℕ;
   are_noted : AreNoted (walk_of (length l.plan.timings) (option_map (λ list. list.items) l.sequence)) (λ i. (l.pairs.from ≤ i) × (i ≤ l.pairs.to)) l.place noted;
   kept : KeepsTo l.tree l.assigned (work_in l.plan) (starts_in l.plan) (walk_of (length l.plan.timings) (option_map (λ list. list.items) l.sequence)) l.pairs l.place;
-  table : IsTable l.spans l.assigned (finish_of (work_in l.plan) (starts_in l.plan)) noted l.table;
-  spans : length l.table.own ≡ length l.tree;
+  table : IsTable (finish_of (work_in l.plan) (starts_in l.plan)) noted l.table;
+  tree : l.table.tree ≡ l.tree;
+  assigned : l.table.assigned ≡ l.assigned;
 }

@@ -11,6 +11,7 @@ use Rattle.waff_plan.proofs.Linkings.{IsWalked, chain_is_few, chain_is_numbers, 
 use Rattle.waff_plan.proofs.ServingLemmas.{lower_link, place_in, place_or, issued_forward}
 use Rattle.waff_plan.proofs.printed.walk.Goals as goal
 use Rattle.waff_plan.proofs.printed.walk.Goals.{After-reverse}
+use Rattle.waff_assign.specs.Held.{Held}
 
 -- a message before this one has a lower place, and none has the place 0
 lower : (place : ℕ → ℕ) (m : ℕ) (next : Option ℕ) → MatchOption next (0 < place m) (λ i. place i < place m) → place_or place next < place m
@@ -46,7 +47,7 @@ loop-next-preserved c =
     m (reverse messages) next taken waited)
 
 -- a printed chain is a chain
-chain_from : (tree : List Node) (assigned : List ℕ) (plan : Timetable) (messages : List ℕ) → (has_clients plan.version ≡ true → StartsIssued (work_in plan) (starts_in plan)) → IsTimetable plan → length plan.timings ≡ length assigned
+chain_from : (tree : List Node) (assigned : List Held) (plan : Timetable) (messages : List ℕ) → (has_clients plan.version ≡ true → StartsIssued (work_in plan) (starts_in plan)) → IsTimetable plan → length plan.timings ≡ length assigned
     → IsPrinted (started_in tree assigned plan) (work_in plan) (starts_in plan) messages
     → IsChain (started_in tree assigned plan) (work_in plan) messages
 chain_from tree assigned plan messages issued table same h =
@@ -54,7 +55,7 @@ chain_from tree assigned plan messages issued table same h =
     (starts_in plan) messages h
 
 -- its messages are messages, at most as many as there are
-listed_from : (tree : List Node) (assigned : List ℕ) (plan : Timetable) (messages : List ℕ) → (has_clients plan.version ≡ true → StartsIssued (work_in plan) (starts_in plan)) → IsTimetable plan → length plan.timings ≡ length assigned
+listed_from : (tree : List Node) (assigned : List Held) (plan : Timetable) (messages : List ℕ) → (has_clients plan.version ≡ true → StartsIssued (work_in plan) (starts_in plan)) → IsTimetable plan → length plan.timings ≡ length assigned
     → IsPrinted (started_in tree assigned plan) (work_in plan) (starts_in plan) messages
     → IsListed (length plan.timings) messages
 listed_from tree assigned plan messages issued table same h =

@@ -1,20 +1,17 @@
 -- Messages are taken in the order in which they are served.
-use Rattle.std.proofs.Common.{◌≡◌, ℕ, ◌-◌, ◌<◌, ◌≤◌, inl, inr, max, true, List, [], ◌∷◌, ◌++◌, length, Contains, Option, MatchOption, set, arith, refl, sym, ◌∙◌, ap, subst}
+use Rattle.std.proofs.Common.{◌≡◌, ℕ, ◌-◌, ◌≤◌, inl, inr, max, true, List, [], ◌∷◌, ◌++◌, length, Contains, Option, MatchOption, set, arith, refl, sym, ◌∙◌, ap, subst}
 use Rattle.waff_model.specs.Numbers.{IsAmongFirst}
-use Rattle.waff_model.specs.Preorder.{span_at}
 use Rattle.waff_model.specs.Versions.{has_clients}
 use Rattle.waff_model.specs.Tree.{Node}
 use Rattle.waff_model.specs.declared.limits.TheConstants.{MAX_MESSAGES}
 use Rattle.waff_model.specs.declared.message.Version.{Version}
-use Rattle.waff_model.specs.declared.preorder.Span.{Span}
-use Rattle.waff_assign.specs.Order.{affinity_of}
 use Rattle.waff_plan.specs.Links.{AreLinks}
 use Rattle.waff_plan.specs.Obeys.{IsLeast}
 use Rattle.waff_plan.specs.Order.{IsServiceKey, Key, Serves, key_of}
 use Rattle.waff_plan.specs.Awaiting.{AreAwaiting}
 use Rattle.waff_plan.specs.Pending.{Issue}
 use Rattle.waff_plan.specs.Serving.{served_before, started_in}
-use Rattle.waff_plan.specs.Table.{IsLatestExcluding, IsLatestMeeting, IsTable}
+use Rattle.waff_plan.specs.Table.{IsLatestExcluding, IsTable}
 use Rattle.waff_plan.specs.Timetable.{AreTimings, Timetable, starts_in, with_start, work_in}
 use Rattle.waff_plan.specs.Timing.{start_of}
 use Rattle.waff_plan.specs.Turns.{HoldsWaits, is_by_issue, turns_in}
@@ -28,11 +25,12 @@ use Rattle.waff_plan.proofs.IssueSteps.{ArePending, AreTaken, least_from_taken, 
 use Rattle.waff_plan.proofs.Orders.{served_by_key, service_key}
 use Rattle.waff_plan.proofs.ServingLemmas.{least_started, served_to_started, started_to_served}
 use Rattle.waff_plan.proofs.StartOrder.{least_again}
-use Rattle.waff_plan.proofs.Tables.{found_noted_at}
+use Rattle.waff_plan.proofs.Tables.{excluding_under}
 use Rattle.waff_plan.proofs.TimingLemmas.{length-timings_of}
 use Rattle.waff_plan.proofs.TurnLemmas.{has_followed, held_is, key_is_issue}
 use Rattle.waff_plan.proofs.unlimited.linked_plan.Goals as goal
 use Rattle.waff_plan.proofs.unlimited.linked_plan.Goals.{In-Some}
+use Rattle.waff_assign.specs.Held.{Held}
 
 -- the timings of the last plan are those of the first
 are_last : (first last : Timetable) → AreTimings first.version first.timings → first.version ≡ last.version → first.timings ≡ last.timings → AreTimings last.version last.timings
@@ -79,47 +77,31 @@ small c = small_work c.loop-m.plan.timings (are c).small
 
 number : (c : In-Some) → IsNumber (work_now c) c.in-Some.m
 number c =
-    m_number c.args.tree.now c.spans-spans.result.now c.args.assigned.now (work_now c) (key_now c) (service c) (are c).earlier
+    m_number c.args.tree.now c.args.assigned.now (work_now c) (key_now c) (service c) (are c).earlier
     (few c) (small c) (starts_now c) (order_now c) c.loop-m.links.items c.loop-m.left (turns_in c.loop-m.turns) (turns_in c.take.new.self) (waits_now c) c.loop-m.table (taken c)
     c.loop-m.invariant.going c.in-Some.ensures.taken
 
 left : (c : In-Some) → 1 ≤ c.loop-m.left
 left c =
-    some_left c.args.tree.now c.spans-spans.result.now c.args.assigned.now (work_now c) (key_now c) (service c) (are c).earlier
+    some_left c.args.tree.now c.args.assigned.now (work_now c) (key_now c) (service c) (are c).earlier
     (few c) (small c) (starts_now c) (order_now c) c.loop-m.links.items c.loop-m.left (turns_in c.loop-m.turns) (turns_in c.take.new.self) (waits_now c) c.loop-m.table (taken c)
     c.loop-m.invariant.going c.in-Some.ensures.taken
 
-among : (c : In-Some) → IsAmongFirst (length c.args.assigned.now) c.in-Some.m
-among c = let known = number c in record { from = known.from; to = omega (arith, known.to, lengths c) }
+-- what it holds is known
+known_message : (c : In-Some) → IsAmongFirst (length c.loop-m.table.assigned) c.in-Some.m
+known_message c =
+    let known = number c in
+    record { from = known.from; to = omega (arith, known.to, lengths c, ap length c.loop-m.invariant.assigned) }
 
--- its affinity is one of the tree
-affinity_within : (c : In-Some) → affinity_of c.args.assigned.now c.in-Some.m < length c.args.tree.now
-affinity_within c = let known = among c in c.requires.known (c.in-Some.m - 1) 0 (omega (arith, known.from, known.to))
-
--- what its affinity's span tells
-forward : (c : In-Some) (a : ℕ) → a ≡ affinity_of c.args.assigned.now c.in-Some.m
-    → (span_at c.spans-spans.result.now a).first < (span_at c.spans-spans.result.now a).end
-forward c a is = c.spans-spans.ensures.filled a (rw is (affinity_within c))
-
-inside : (c : In-Some) (a : ℕ) → a ≡ affinity_of c.args.assigned.now c.in-Some.m
-    → (span_at c.spans-spans.result.now a).end ≤ length c.loop-m.table.own
-inside c a is = rw c.loop-m.invariant.spans (c.spans-spans.ensures.few a (rw is (affinity_within c)))
-
-abbrev IsWaitedFor : In-Some → Option Latest → Type 0
-IsWaitedFor c latest =
-    IsLatestExcluding c.args.tree.now c.args.assigned.now (finish_of (work_now c) (start_of (starts_now c))) (order_now c)
-    (affinity_of c.args.assigned.now c.in-Some.m) latest
-
-waited_for : (c : In-Some) (a : ℕ) (latest : Option Latest) → a ≡ affinity_of c.args.assigned.now c.in-Some.m
-    → ((others : List Span) (assigned : List ℕ) (finish : ℕ → ℕ) (noted : List ℕ) → IsTable others assigned finish noted c.loop-m.table
-    → IsLatestMeeting others assigned finish noted (span_at c.spans-spans.result.now a) latest)
-    → IsWaitedFor c latest
-waited_for c a latest is answer =
-    let going = c.loop-m.invariant.going in
-    found_noted_at c.args.tree.now c.spans-spans.result.now c.args.assigned.now (finish_of (work_now c) (start_of (starts_now c))) (order_now c) c.in-Some.m a
-    c.loop-m.table latest c.spans-spans.ensures c.requires.known
-    (λ i there. let known = going.taken.number i there in record { from = known.from; to = omega (arith, known.to, lengths c) })
-    (among c) is going.table answer
+-- the latest that was taken before it and excludes it
+waited_for : (c : In-Some) (latest : Option Latest)
+    → ((finish : ℕ → ℕ) (noted : List ℕ) → IsTable finish noted c.loop-m.table
+    → IsLatestExcluding c.loop-m.table.tree c.loop-m.table.assigned finish noted c.in-Some.m latest)
+    → IsLatestExcluding c.args.tree.now c.args.assigned.now (finish_of (work_now c) (start_of (starts_now c))) (order_now c) c.in-Some.m latest
+waited_for c latest answer =
+    let h = c.loop-m.invariant in
+    let finish = finish_of (work_now c) (start_of (starts_now c)) in
+    excluding_under c.args.tree.now c.args.assigned.now c.loop-m.table finish (order_now c) c.in-Some.m latest h.tree h.assigned (answer finish (order_now c) h.going.table)
 
 -- it starts as soon as it may
 starts_at : (c : In-Some) (s issue : ℕ) (latest : Option Latest) → issue ≡ issue_of (work_now c) (start_of (starts_now c)) c.in-Some.m
@@ -133,7 +115,7 @@ awaiting_now c = c.loop-m.invariant.going.awaiting
 
 untaken : (c : In-Some) → Contains (order_now c) c.in-Some.m → ⊥
 untaken c =
-    untaken_yet c.args.tree.now c.spans-spans.result.now c.args.assigned.now (work_now c) (key_now c) (service c) (are c).earlier
+    untaken_yet c.args.tree.now c.args.assigned.now (work_now c) (key_now c) (service c) (are c).earlier
     (few c) (small c) (starts_now c) (order_now c) c.loop-m.links.items c.loop-m.left (turns_in c.loop-m.turns) (turns_in c.take.new.self) (waits_now c) c.loop-m.table (taken c)
     c.loop-m.invariant.going c.in-Some.ensures.taken
 
@@ -149,34 +131,26 @@ loop-m-init c =
     record {
       order = [];
       waits = c.in_ok-turns.ensures.waits.0;
-      going = going_first c.args.tree.now c.spans-spans.result.now c.args.assigned.now (work_in plan) (key_of plan.version (work_in plan)) plan.starts
+      going = going_first c.args.tree.now c.args.assigned.now (work_in plan) (key_of plan.version (work_in plan)) plan.starts
           c.in_ok-links.links.items c.len-left.result (turns_in c.in_ok-turns.turns) c.in_ok-turns.ensures.waits.0 c.in_ok-table.table c.len-left.ensures.table.lengths
-          (omega (arith, c.in_ok-links.ensures.len, c.in_ok-links.links.ok.0, c.len-2.ensures.count)) c.len-left.ensures.count
-          c.in_ok-turns.ensures.first c.in_ok-turns.ensures.waits.1 (c.in_ok-table.ensures.table c.spans-spans.result.now c.args.assigned.now _);
+          (omega (arith, c.in_ok-links.ensures.len, c.in_ok-links.links.ok.0, c.len.ensures.count)) c.len-left.ensures.count
+          c.in_ok-turns.ensures.first c.in_ok-turns.ensures.waits.1 (c.in_ok-table.ensures.table _);
       holds = c.in_ok-turns.ensures.waits.2;
       version = c.in_ok-plan.ensures.version;
       timings = c.in_ok-plan.ensures.timings;
-      spans = c.in_ok-table.ensures.count ∙ c.len.ensures.count;
+      tree = c.in_ok-table.ensures.tree;
+      assigned = c.in_ok-table.ensures.assigned;
       by = c.in_ok-turns.ensures.by;
     }
 
 pub overflow_sub-left : goal.overflow_sub-left
 overflow_sub-left c = left (goal.at.overflow_sub-left c).In-Some
 
-pub of-requires : goal.of-requires
-of-requires c = record { number = among c }
-
-pub bounds-spans-of : goal.bounds-spans-of
-bounds-spans-of c = rw (c.of.ensures, c.spans-spans.ensures.count) (affinity_within (goal.at.bounds-spans-of c).In-Some)
-
 pub issue-requires : goal.issue-requires
 issue-requires c = record { number = number (goal.at.issue-requires c).In-Some }
 
-pub latest-latest-requires-clause-forward : goal.latest-latest-requires-clause-forward
-latest-latest-requires-clause-forward c = forward (goal.at.latest-latest-requires-clause-forward c).In-Some c.of.result.0 c.of.ensures
-
-pub latest-latest-requires-clause-within : goal.latest-latest-requires-clause-within
-latest-latest-requires-clause-within c = inside (goal.at.latest-latest-requires-clause-within c).In-Some c.of.result.0 c.of.ensures
+pub latest-latest-requires : goal.latest-latest-requires
+latest-latest-requires c = record { number = known_message (goal.at.latest-latest-requires c).In-Some }
 
 pub wait-requires : goal.wait-requires
 wait-requires c = record { number = number (goal.at.wait-requires c).In-Some }
@@ -191,26 +165,18 @@ set_start-requires c =
     let f = (goal.at.set_start-requires c).In-Some in
     record {
       number = number f;
-      printable = start_printable c.args.tree.now c.spans-spans.result.now c.args.assigned.now (work_now f) (key_now f) (service f) (are f).earlier
+      printable = start_printable c.args.tree.now c.args.assigned.now (work_now f) (key_now f) (service f) (are f).earlier
           (few f) (small f) (starts_now f) (order_now f) c.loop-m.links.items c.loop-m.left (turns_in c.loop-m.turns) (turns_in c.take.new.self) (waits_now f) c.loop-m.table (taken f)
           c.loop-m.invariant.going c.in-Some.ensures.taken c.start_at-start.result c.latest-latest.result
-          (waited_for f c.of.result.0 c.latest-latest.result c.of.ensures c.latest-latest.ensures)
+          (waited_for f c.latest-latest.result c.latest-latest.ensures)
           (starts_at f c.start_at-start.result c.issue.result c.latest-latest.result c.issue.ensures.issue c.start_at-start.ensures);
     }
 
 pub finish-finish-requires : goal.finish-finish-requires
 finish-finish-requires c = rw c.set_start.ensures (record { number = number (goal.at.finish-finish-requires c).In-Some })
 
-pub note-requires-clause-forward : goal.note-requires-clause-forward
-note-requires-clause-forward c = forward (goal.at.note-requires-clause-forward c).In-Some c.of.result.0 c.of.ensures
-
-pub note-requires-clause-within : goal.note-requires-clause-within
-note-requires-clause-within c = inside (goal.at.note-requires-clause-within c).In-Some c.of.result.0 c.of.ensures
-
-pub note-requires-clause-few : goal.note-requires-clause-few
-note-requires-clause-few c =
-    let f = (goal.at.note-requires-clause-few c).In-Some in
-    let known = number f in omega (arith, known.to, few f)
+pub note-requires : goal.note-requires
+note-requires c = record { number = known_message (goal.at.note-requires c).In-Some }
 
 pub overflow_sub-m : goal.overflow_sub-m
 overflow_sub-m c = (number (goal.at.overflow_sub-m c).In-Some).from
@@ -241,7 +207,6 @@ loop-m-smaller c = omega (arith, left (goal.at.loop-m-smaller c).In-Some)
 pub loop-m-preserved : goal.loop-m-preserved
 loop-m-preserved c =
     let f = (goal.at.loop-m-preserved c).In-Some in
-    let spans = c.spans-spans.result.now in
     let s = c.start_at-start.result in
     let placed = with_start c.loop-m.plan c.in-Some.m s in
     let finish_is : c.finish-finish.result ≡ finish_of (work_in placed) (starts_in placed) c.in-Some.m
@@ -251,13 +216,13 @@ loop-m-preserved c =
     rw (c.set_start.ensures, c.wait.ensures) (record {
       order = order_now f ++ c.in-Some.m ∷ [];
       waits = after;
-      going = going_on c.args.tree.now spans c.args.assigned.now (work_now f) (key_now f) (service f) (are f).earlier
+      going = going_on c.args.tree.now c.args.assigned.now (work_now f) (key_now f) (service f) (are f).earlier
           (few f) (small f) (starts_now f) (order_now f) c.loop-m.links.items c.loop-m.left (turns_in c.loop-m.turns) (turns_in c.take.new.self) (waits_now f) c.loop-m.table (taken f)
           c.loop-m.invariant.going c.in-Some.ensures.taken s c.latest-latest.result
-          (waited_for f c.of.result.0 c.latest-latest.result c.of.ensures c.latest-latest.ensures)
+          (waited_for f c.latest-latest.result c.latest-latest.ensures)
           (starts_at f s c.issue.result c.latest-latest.result c.issue.ensures.issue c.start_at-start.ensures)
           c.finish-finish.result finish_is c.note.new.self
-          (λ finish_at noted at. c.note.ensures.table spans c.args.assigned.now finish_at (order_now f) noted (ap (span_at spans) (sym c.of.ensures)) at)
+          (λ finish_at noted at. c.note.ensures.table finish_at (order_now f) noted at)
           (turns_in c.admit.new.self) after refl (c.in_ok-admit.ensures.free (waits_now f) after (holds_then f) holds_after)
           (λ y there. elim (c.in_ok-admit.ensures.issued (waits_now f) (holds_then f) y there) [
             | inl old ↦ inl old
@@ -270,12 +235,13 @@ loop-m-preserved c =
       holds = holds_after;
       version = c.loop-m.invariant.version;
       timings = c.loop-m.invariant.timings;
-      spans = c.note.ensures.count ∙ c.loop-m.invariant.spans;
+      tree = c.note.ensures.tree ∙ c.loop-m.invariant.tree;
+      assigned = c.note.ensures.assigned ∙ c.loop-m.invariant.assigned;
       by = c.in_ok-admit.ensures.kept ∙ c.in-Some.ensures.kept ∙ c.loop-m.invariant.by;
     })
 
 -- the plan that is least in the order by the key is least in the order in which it serves messages
-least_served : (tree : List Node) (assigned : List ℕ) (work : Work) → length assigned ≡ work.count → (version : Version) (start : ℕ → ℕ)
+least_served : (tree : List Node) (assigned : List Held) (work : Work) → length assigned ≡ work.count → (version : Version) (start : ℕ → ℕ)
     → IsLeast (Serves tree assigned work (key_of version work start)) work start → IsLeast (served_before version tree assigned work start) work start
 least_served tree assigned work same version start least =
     least_again (Serves tree assigned work (key_of version work start)) (served_before version tree assigned work start) work start
@@ -291,7 +257,7 @@ pub returns-clause-lengths : goal.returns-clause-lengths
 returns-clause-lengths c = ap length c.loop-m.invariant.timings ∙ length-timings_of c.args.trace.now.messages ∙ c.requires.lengths
 
 -- a plan of which no message is left is least
-all_least : (tree : List Node) (assigned : List ℕ) (plan : Timetable) → AreTimings plan.version plan.timings → length plan.timings ≡ length assigned
+all_least : (tree : List Node) (assigned : List Held) (plan : Timetable) → AreTimings plan.version plan.timings → length plan.timings ≡ length assigned
     → (order : List ℕ) (links : List (Option ℕ)) → AreTaken tree assigned (work_in plan) (key_of plan.version (work_in plan)) (starts_in plan) order links
     → ArePending (work_in plan) (key_of plan.version (work_in plan)) (starts_in plan) order []
     → IsLeast (served_before plan.version tree assigned (work_in plan) (starts_in plan)) (work_in plan) (starts_in plan)
@@ -301,7 +267,7 @@ all_least tree assigned plan are same order links taken pending =
     (least_from_taken tree assigned work (key_of plan.version work) (service_key plan.version work are.earlier) (starts_in plan) order are.earlier links taken pending)
 
 -- its links are those that were found
-all_links : (tree : List Node) (assigned : List ℕ) (plan : Timetable) → AreTimings plan.version plan.timings → length plan.timings ≡ length assigned
+all_links : (tree : List Node) (assigned : List Held) (plan : Timetable) → AreTimings plan.version plan.timings → length plan.timings ≡ length assigned
     → (order : List ℕ) (links : List (Option ℕ)) → AreTaken tree assigned (work_in plan) (key_of plan.version (work_in plan)) (starts_in plan) order links
     → ArePending (work_in plan) (key_of plan.version (work_in plan)) (starts_in plan) order []
     → AreLinks (started_in tree assigned plan) (work_in plan) (starts_in plan) (length plan.timings) links

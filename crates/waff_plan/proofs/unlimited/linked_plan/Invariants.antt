@@ -1,4 +1,4 @@
-use Rattle.std.proofs.Common.{◌≡◌, ℕ, List, length}
+use Rattle.std.proofs.Common.{◌≡◌, ℕ, List}
 use Rattle.waff_model.specs.Versions.{has_clients}
 use Rattle.waff_plan.specs.Order.{key_of}
 use Rattle.waff_plan.specs.Timetable.{timings_of, work_in}
@@ -11,11 +11,12 @@ abbrev pub invariant-loop-m : goal.invariant-loop-m
 invariant-loop-m l = record {
   order : List ℕ;
   waits : WhoWaits;
-  going : IsGoing l.tree l.spans l.assigned (work_in l.plan) (key_of l.plan.version (work_in l.plan)) l.plan.starts order l.links.items l.left (turns_in l.turns) waits l.table;
+  going : IsGoing l.tree l.assigned (work_in l.plan) (key_of l.plan.version (work_in l.plan)) l.plan.starts order l.links.items l.left (turns_in l.turns) waits l.table;
   holds : HoldsWaits l.turns waits;
   version : l.plan.version ≡ l.trace.version;
   timings : l.plan.timings ≡ timings_of l.trace.messages;
-  spans : length l.table.own ≡ length l.tree;
+  tree : l.table.tree ≡ l.tree;
+  assigned : l.table.assigned ≡ l.assigned;
   by : is_by_issue l.turns ≡ has_clients l.plan.version;
 }
 

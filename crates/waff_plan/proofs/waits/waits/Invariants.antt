@@ -15,6 +15,7 @@ invariant-loop-place l = record {
   are_noted : AreNoted (walk_of (length l.plan.timings) (option_map (λ list. list.items) l.started)) (λ i. Unit {0}) l.place noted;
   count : length l.waits.items ≡ length l.plan.timings;
   waits : AreFirstLinks (IsWait l.since (started_before l.plan.version l.tree l.assigned (starts_in l.plan)) (work_in l.plan) (starts_in l.plan)) (walk_of (length l.plan.timings) (option_map (λ list. list.items) l.started)) l.waits.items l.place;
-  table : IsTable l.spans l.assigned (finish_of (work_in l.plan) (starts_in l.plan)) noted l.table;
-  spans : length l.table.own ≡ length l.tree;
+  table : IsTable (finish_of (work_in l.plan) (starts_in l.plan)) noted l.table;
+  tree : l.table.tree ≡ l.tree;
+  assigned : l.table.assigned ≡ l.assigned;
 }

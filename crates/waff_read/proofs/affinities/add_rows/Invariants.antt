@@ -8,5 +8,5 @@ abbrev pub invariant-loop-row : goal.invariant-loop-row
 invariant-loop-row l = record {
   names : l.names ≡ map (λ node. node.name) l.tree;
   few : length l.names ≤ MAX_AFFINITIES;
-  tree : tree_from l.tree (map view (drop l.row-index l.rows)) ≡ tree_from [] (map view l.rows);
+  tree : tree_from l.format l.tree (map view (drop l.row-index l.rows)) ≡ tree_from l.format [] (map view l.rows);
 }

@@ -1,13 +1,12 @@
-use Rattle.std.proofs.Common.{codes, option_map, refl, sym}
+use Rattle.std.proofs.Common.{option_map, refl, sym}
 use Rattle.std.specs.Option.{ok_or}
 use Rattle.std.proofs.lemmas.Result.{err_from_is_err_and}
 use Rattle.toml.specs.View.{view}
 use Rattle.waff_parse.specs.Refusals.{told}
 use Rattle.waff_read.specs.declared.hier_error.HierError.TheVariants.{Model}
 use Rattle.waff_read.specs.Checks.{passed}
-use Rattle.waff_read.specs.Documents.{rows_at}
 use Rattle.waff_read.specs.Shapes.{shape_refusal}
-use Rattle.waff_read.specs.Affinities.{tree_of}
+use Rattle.waff_read.specs.Affinities.{tree_in}
 use Rattle.waff_read.specs.HierRefusals.{shape_error, tree_error}
 use Rattle.waff_read.specs.Hierarchies.{kind_of, kind_refusal, layout_in}
 use Rattle.waff_read.proofs.HierarchyLemmas.{tells_at, stops_at, after_kind, after_shape, after_tree, after_level, at_shape, at_tree, at_level, at_layout}
@@ -38,7 +37,7 @@ returns-in_err-tree c =
     let same = at_tree document kind (at_shape document kind c.in_ok-kind.ensures) c.in_ok-check_shape.ensures in
     let p = err_from_is_err_and c.from_residual-in_err-tree.result c.from_residual-in_err-tree.ensures.1 in
     rw (p.1, p.2)
-    (stops_at (layout_in document) c.in_err-tree.field-0.0 (told tree_error (tree_of (rows_at (codes "affinity") document))) (after_tree document kind) same c.in_err-tree.ensures)
+    (stops_at (layout_in document) c.in_err-tree.field-0.0 (told tree_error (tree_in document)) (after_tree document kind) same c.in_err-tree.ensures)
 
 pub returns-in_err-check_kind : goal.returns-in_err-check_kind
 returns-in_err-check_kind c =

@@ -1,8 +1,10 @@
-use Rattle.std.proofs.Common.{◌∙◌, Bool, codes, refl}
+use Rattle.std.proofs.Common.{◌∙◌, ◌&&◌, Bool, codes, ap, refl}
 use Rattle.toml.specs.Data.{Data}
 use Rattle.toml.specs.View.{view}
+use Rattle.waff_model.specs.Formats.{may_lock}
 use Rattle.waff_read.specs.Documents.{rows_at}
-use Rattle.waff_read.specs.Shapes.{lacks_text, lacks_integer, lacks_texts, has_other_than_text}
+use Rattle.waff_read.specs.Formats.{format_of}
+use Rattle.waff_read.specs.Shapes.{lacks_text, lacks_integer, lacks_texts, has_other_than_text, has_other_than_locks}
 use Rattle.waff_read.proofs.DocumentLemmas.{list_any-of}
 use Rattle.waff_read.proofs.shape.shape_refusal.Goals as goal
 
@@ -17,4 +19,5 @@ returns c =
     let space = c.any_lacks_text.ensures ∙ maps (lacks_text (codes "space")) in
     let unit = c.any_lacks_integer-2.ensures ∙ maps (lacks_integer (codes "unit")) in
     let to = c.any_lacks_texts.ensures ∙ maps (lacks_texts (codes "to")) in
-    rw (c.first_refusal.ensures, c.lacks_tables.ensures, c.lacks_tables-2.ensures, c.lacks_tables-3.ensures, c.lacks_names.ensures, affinities (lacks_text (codes "name")), spaces (lacks_text (codes "name")), parent, size, space, unit, to) refl
+    let locks = c.has_bad_locks.ensures ∙ ap (λ b. may_lock (format_of document) && b) (spaces has_other_than_locks) in
+    rw (c.first_refusal.ensures, c.lacks_tables.ensures, c.lacks_tables-2.ensures, c.lacks_maps.ensures, c.lacks_names.ensures, affinities (lacks_text (codes "name")), spaces (lacks_text (codes "name")), parent, size, space, unit, to, locks) refl

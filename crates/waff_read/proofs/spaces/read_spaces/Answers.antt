@@ -12,7 +12,7 @@ push_reserved-requires c = omega (arith, c.loop-row.invariant.count, c.loop-row.
 pub loop-row-preserved : goal.loop-row-preserved
 loop-row-preserved c =
     let long = length_push c.loop-row.spaces.items c.in_ok-read_space.field-0 in
-    let more = map_more (λ (row : Value). space_of (view row)) c.args.rows.now c.loop-row.row-index c.row-item.result (omega arith) c.row-item.is in
+    let more = map_more (λ (row : Value). space_of c.args.format (view row)) c.args.rows.now c.loop-row.row-index c.row-item.result (omega arith) c.row-item.is in
     let pushed = c.push_reserved.ensures.items in record {
       rows = rw (pushed, c.loop-row.invariant.rows, c.in_ok-read_space.ensures) more;
       count = rw pushed (omega (arith, long, c.loop-row.invariant.count));

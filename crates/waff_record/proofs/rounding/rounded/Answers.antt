@@ -1,17 +1,17 @@
 -- Messages are told one after another, in the order in which they began.
-use Rattle.std.proofs.Common.{◌≡◌, ℕ, ◌+◌, ◌-◌, ◌/◌, ◌<◌, ◌≤◌, max, List, [], ◌∷◌, ◌++◌, length, get_or, set, Option, Some, None, arith, refl, sym, ◌∙◌, ap, subst}
+use Rattle.std.proofs.Common.{◌≡◌, ℕ, ◌+◌, ◌-◌, ◌/◌, ◌<◌, ◌≤◌, max, List, [], ◌∷◌, ◌++◌, length, get_or, set, Option, Some, None, arith, sym, ◌∙◌, ap, subst}
 use Rattle.std.proofs.lemmas.List.{get_or-replicate, length-replicate, length-set}
 use Rattle.waff_model.specs.Numbers.{IsAmongFirst}
+use Rattle.waff_model.specs.Tree.{Node}
 use Rattle.waff_model.specs.declared.message.Message.{Message}
-use Rattle.waff_model.specs.declared.preorder.Span.{Span}
-use Rattle.waff_assign.specs.Order.{affinity_of}
-use Rattle.waff_plan.specs.Table.{IsLatestMeeting, IsTable, message_span}
+use Rattle.waff_assign.specs.Held.{Held}
+use Rattle.waff_plan.specs.Table.{IsLatestExcluding}
 use Rattle.waff_plan.specs.Timetable.{Timetable, starts_in, timings_of, work_in}
 use Rattle.waff_plan.specs.Work.{finish_of}
 use Rattle.waff_plan.specs.declared.latest.Latest.{Latest}
 use Rattle.waff_plan.specs.declared.timing.Timing.{Timing}
 use Rattle.waff_plan.proofs.Noted.{none_noted, noted_more}
-use Rattle.waff_plan.proofs.Tables.{found_noted_at, table_again}
+use Rattle.waff_plan.proofs.Tables.{table_again}
 use Rattle.waff_plan.proofs.TimingLemmas.{length-timings_of}
 use Rattle.waff_line.specs.declared.turn.Turn.{Turn}
 use Rattle.waff_record.specs.Turns.{turn_at}
@@ -38,12 +38,13 @@ loop-place-init c =
       long = c.len-count.ensures.table.lengths;
       costs = costs_first run plan c.in_ok-plan.ensures.timings;
       told = λ p less. absurd (omega (arith, less));
-      table = c.in_ok-table.ensures.table c.spans-spans.result.now run.case.assigned.now _;
+      table = c.in_ok-table.ensures.table _;
       free = λ w among.
           none_free run.turns.now _ w _
           (ap (λ (xs : List ℕ). get_or xs (w - 1) 0) none ∙ get_or-replicate run.workers (w - 1) 0 0 (omega (arith, among.from, among.to)));
       seats = ap length none ∙ length-replicate {A = ℕ} run.workers 0;
-      places = c.in_ok-table.ensures.count ∙ c.len.ensures.count;
+      tree = c.in_ok-table.ensures.tree;
+      assigned = c.in_ok-table.ensures.assigned;
     }
 
 -- the place is one of a message
@@ -62,12 +63,6 @@ turn_at-turn-requires c =
     let within = less _ c.loop-place.place c.in_ok-plan.plan.timings run.case.trace.now.messages c.loop-place-test.true c.len-count.ensures.count c.in_ok-plan.ensures.timings in
     record { number = number_of run c.requires.ran c.in_ok-began.began.items c.in_ok-began.ensures (length run.turns.now) (turns_many run c.requires.ran) c.loop-place.place c.number_at-m.result within c.number_at-m.ensures }
 
-pub span_of-span-requires-clause-number : goal.span_of-span-requires-clause-number
-span_of-span-requires-clause-number c =
-    let run = c.args.run.now in
-    let within = less _ c.loop-place.place c.in_ok-plan.plan.timings run.case.trace.now.messages c.loop-place-test.true c.len-count.ensures.count c.in_ok-plan.ensures.timings in
-    number_of run c.requires.ran c.in_ok-began.began.items c.in_ok-began.ensures (length run.case.assigned.now) run.case.lengths c.loop-place.place c.number_at-m.result within c.number_at-m.ensures
-
 pub issue-issue-requires : goal.issue-issue-requires
 issue-issue-requires c =
     let run = c.args.run.now in
@@ -84,8 +79,14 @@ free_from-rest-requires c =
     let there = worker_there run c.requires.ran c.in_ok-began.began.items c.in_ok-began.ensures c.loop-place.place c.number_at-m.result c.turn_at-turn.result.now within c.number_at-m.ensures c.turn_at-turn.ensures in
     record { worker = record { from = there.from; to = omega (arith, there.to, c.loop-place.invariant.seats) } }
 
-pub latest-latest-requires-clause-within : goal.latest-latest-requires-clause-within
-latest-latest-requires-clause-within c = omega (arith, c.span_of-span.ensures.within, c.loop-place.invariant.places)
+pub latest-latest-requires : goal.latest-latest-requires
+latest-latest-requires c =
+    let run = c.args.run.now in
+    let within = less _ c.loop-place.place c.in_ok-plan.plan.timings run.case.trace.now.messages c.loop-place-test.true c.len-count.ensures.count c.in_ok-plan.ensures.timings in
+    record {
+      number = number_of run c.requires.ran c.in_ok-began.began.items c.in_ok-began.ensures (length c.loop-place.table.assigned)
+          (ap length c.loop-place.invariant.assigned ∙ run.case.lengths) c.loop-place.place c.number_at-m.result within c.number_at-m.ensures;
+    }
 
 pub set_turn-requires-clause-number : goal.set_turn-requires-clause-number
 set_turn-requires-clause-number c =
@@ -107,16 +108,14 @@ index_mut-requires c =
     let there = worker_there run c.requires.ran c.in_ok-began.began.items c.in_ok-began.ensures c.loop-place.place c.number_at-m.result c.turn_at-turn.result.now within c.number_at-m.ensures c.turn_at-turn.ensures in
     omega (arith, there.from, there.to, c.loop-place.invariant.seats)
 
-pub note-requires-clause-within : goal.note-requires-clause-within
-note-requires-clause-within c = omega (arith, c.span_of-span.ensures.within, c.loop-place.invariant.places)
-
-pub note-requires-clause-few : goal.note-requires-clause-few
-note-requires-clause-few c =
+pub note-requires : goal.note-requires
+note-requires c =
     let run = c.args.run.now in
     let within = less _ c.loop-place.place c.in_ok-plan.plan.timings run.case.trace.now.messages c.loop-place-test.true c.len-count.ensures.count c.in_ok-plan.ensures.timings in
-    let number = number_of run c.requires.ran c.in_ok-began.began.items c.in_ok-began.ensures (length run.case.trace.now.messages) refl c.loop-place.place c.number_at-m.result within c.number_at-m.ensures in
-    let same = ap length c.in_ok-plan.ensures.timings in
-    omega (arith, number.to, c.len-count.ensures.table.few, same, length-timings_of run.case.trace.now.messages)
+    record {
+      number = number_of run c.requires.ran c.in_ok-began.began.items c.in_ok-began.ensures (length c.loop-place.table.assigned)
+          (ap length c.loop-place.invariant.assigned ∙ run.case.lengths) c.loop-place.place c.number_at-m.result within c.number_at-m.ensures;
+    }
 
 pub loop-place-preserved : goal.loop-place-preserved
 loop-place-preserved c =
@@ -129,8 +128,6 @@ loop-place-preserved c =
     let here = c.number_at-m.ensures in
     let turn = c.turn_at-turn.result.now in
     let turn_is = c.turn_at-turn.ensures in
-    let span = c.span_of-span.result in
-    let spans = c.spans-spans.result.now in
     let assigned = run.case.assigned.now in
     let told = c.in-Some.told in
     let are = c.in-Some.ensures in
@@ -146,21 +143,13 @@ loop-place-preserved c =
     let finish = finish_of (work_in plan) (starts_in plan) in
     let again = finish_of (work_in new) (starts_in new) in
     let there = worker_there run ran began begun place m turn within here turn_is in
-    let number = number_of run ran began begun (length assigned) run.case.lengths place m within here in
     let frees = c.loop-place.free.items in
     let rest_is : c.free_from-rest.result ≡ get_or frees ((turn_at run.turns.now m).worker - 1) 0
     = c.free_from-rest.ensures ∙ ap (λ (t : Turn). get_or frees (t.worker - 1) 0) turn_is in
     let own = subst (IsAmongFirst run.workers) (ap (λ (t : Turn). t.worker) turn_is) there in
     let is_free = subst (IsFreeFrom run.turns.now finish noted (turn_at run.turns.now m).worker) (sym rest_is) (old.free (turn_at run.turns.now m).worker own) in
-    let met : (others : List Span) (assigned : List ℕ) (finish : ℕ → ℕ) (noted : List ℕ) → IsTable others assigned finish noted c.loop-place.table
-    → IsLatestMeeting others assigned finish noted (message_span spans run.case.assigned.now m) latest
-    = subst (λ (s : Span). (others : List Span) (assigned : List ℕ) (finish : ℕ → ℕ) (noted : List ℕ) → IsTable others assigned finish noted c.loop-place.table
-    → IsLatestMeeting others assigned finish noted s latest) c.span_of-span.ensures.span c.latest-latest.ensures in
-    let found = found_noted_at run.case.tree.now spans assigned finish noted m (affinity_of assigned m) c.loop-place.table latest c.spans-spans.ensures run.case.known
-    (λ i in_noted.
-    let at = old.are_noted.each i in_noted in
-    number_of run ran began begun (length assigned) run.case.lengths at.0 i (omega (arith, at.1, within)) (sym at.2))
-    number refl old.table met in
+    let found = subst (λ (t : List Node). IsLatestExcluding t assigned finish noted m latest) old.tree
+    (subst (λ (held : List Held). IsLatestExcluding c.loop-place.table.tree held finish noted m latest) old.assigned (c.latest-latest.ensures finish noted old.table)) in
     let costs = new_costs run ran began begun timings timings_are earlier plan new place m told.start told.cost noted within here old.are_noted old.costs old.long old.told c.set_turn.ensures in
     let stay = new_stay run ran began begun timings timings_are earlier plan new place m told.start told.cost noted within here old.are_noted old.costs old.long old.told c.set_turn.ensures in
     let ends = new_finish run ran began begun timings timings_are earlier plan new place m told.start told.cost noted within here old.are_noted old.costs old.long old.told c.set_turn.ensures in
@@ -174,12 +163,13 @@ loop-place-preserved c =
       costs = costs;
       told = new_told run ran began begun timings timings_are earlier plan new place m told.start told.cost noted within here old.are_noted old.costs old.long old.told c.set_turn.ensures
           turn turn_is latest found c.free_from-rest.result is_free c.issue-issue.result c.issue-issue.ensures.issue are.start (are.cost ∙ are.finish);
-      table = c.note.ensures.table spans assigned again noted (table_again spans assigned finish again noted c.loop-place.table stay old.table) (sym c.span_of-span.ensures.span) ends_is;
+      table = c.note.ensures.table again noted (table_again finish again noted c.loop-place.table stay old.table) ends_is;
+      tree = c.note.ensures.tree ∙ old.tree;
+      assigned = c.note.ensures.assigned ∙ old.assigned;
       free = subst (λ (t : Turn). AreFree run.turns.now again (noted ++ m ∷ []) run.workers (set frees (t.worker - 1) told.finish)) (sym turn_is)
           (free_more run.turns.now finish again noted m stay run.workers frees told.finish old.seats own ends_is
           (later_free (turn.start / run.tick) c.issue-issue.result c.free_from-rest.result told.start told.cost told.finish latest _ are.start are.cost rest_is) old.free);
       seats = length-set frees (turn.worker - 1) told.finish ∙ old.seats;
-      places = c.note.ensures.count ∙ old.places;
     }
   where
     -- a worker that is free from a tick on is told to be busy behind it

@@ -18,8 +18,9 @@ invariant-loop-place l = record {
   costs : HasOtherCosts (ticks_run l.run) (work_in l.plan);
   told : (p : ℕ) → p < l.place
       → IsTold (course_run l.run) l.run.tick l.run.turns.now (work_in l.plan) (starts_in l.plan) (started_at l.began.items p).number;
-  table : IsTable l.spans l.run.case.assigned.now (finish_of (work_in l.plan) (starts_in l.plan)) noted l.table;
+  table : IsTable (finish_of (work_in l.plan) (starts_in l.plan)) noted l.table;
   free : AreFree l.run.turns.now (finish_of (work_in l.plan) (starts_in l.plan)) noted l.run.workers l.free.items;
   seats : length l.free.items ≡ l.run.workers;
-  places : length l.table.own ≡ length l.run.case.tree.now;
+  tree : l.table.tree ≡ l.run.case.tree.now;
+  assigned : l.table.assigned ≡ l.run.case.assigned.now;
 }

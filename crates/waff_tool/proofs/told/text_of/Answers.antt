@@ -31,7 +31,7 @@ returns-in-Limits g c =
 pub returns-in-Where : goal.returns-in-Where
 returns-in-Where g c =
     tells_as (λ text. string_bytes text) _ (told.Where c.in-Where.workers c.in-Where.rule c.in-Where.label c.in-Where.columns) c.args.accepted.now.layout _ _ c.spent_text.result c.in-Where.is c.case-case.ensures.instance
-    c.spent_text.ensures
+    (rw c.has_locks-locks.ensures at c.spent_text.ensures)
 
 pub returns-in-Waits : goal.returns-in-Waits
 returns-in-Waits g c =
@@ -47,3 +47,8 @@ pub returns-in-Why : goal.returns-in-Why
 returns-in-Why g c =
     tells_as (λ text. string_bytes text) _ (told.Why c.in-Why.grouping) c.args.accepted.now.layout _ _ c.lifted_text.result c.in-Why.is refl
     c.lifted_text.ensures
+
+pub returns-in-Locks : goal.returns-in-Locks
+returns-in-Locks g c =
+    tells_as (λ text. string_bytes text) _ (told.Locks c.in-Locks.workers c.in-Locks.rule c.in-Locks.kind c.in-Locks.steps) c.args.accepted.now.layout _ _ c.locks_text.result c.in-Locks.is refl
+    c.locks_text.ensures

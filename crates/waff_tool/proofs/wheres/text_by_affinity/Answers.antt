@@ -7,7 +7,7 @@ use Rattle.waff_plan.specs.Planned.{planned_starts}
 use Rattle.waff_plan.specs.Timing.{work_of}
 use Rattle.waff_plan.specs.declared.timing.Timing.{Timing}
 use Rattle.waff_plan_text.specs.Lines.{text_of}
-use Rattle.waff_figures.specs.ByAffinity.{AreCostsBelow, affinities_lines, runs_in}
+use Rattle.waff_figures.specs.ByAffinity.{AreCostsBelow, affinities_lines, affinity_numbers, runs_in}
 use Rattle.waff_figures.specs.Parts.{AreTheParts}
 use Rattle.waff_figures.specs.declared.parts.PartFigures.{PartFigures}
 use Rattle.waff_tool.proofs.wheres.text_by_affinity.Goals as goal
@@ -22,12 +22,11 @@ returns c =
     let assigned = instance.assigned in
     let start = planned_starts planned in
     let work = work_of_instance instance in
-    let lines = range_with_len 0 (length tree) in
-    let filled = c.len-affinities.ensures.tree.filled in
+    let lines = affinity_numbers tree in
     let known = planned.case.known in
     let IsText : List Timing → List ℕ → Type 0 = λ timings text. (below : List ℕ) × (parts : List PartFigures)
-    × AreCostsBelow tree assigned (work_of timings) below × AreTheParts columns (work_of timings) start (runs_in assigned) lines parts
-    × (text ≡ text_of (affinities_lines columns tree assigned (work_of timings) start chain below parts)) in
+    × AreCostsBelow tree assigned (work_of timings) below × AreTheParts columns (work_of timings) start (runs_in tree assigned) lines parts
+    × (text ≡ text_of (affinities_lines columns c.args.locks tree assigned (work_of timings) start chain below parts)) in
     IfOk-weaker c.affinities_text.result _ _
     (λ text told.
     let as_told = subst (λ ts. IsText ts (string_bytes text)) planned.timings told in
@@ -36,11 +35,11 @@ returns c =
       parts = as_told.1;
       are_below = as_told.2;
       are_parts = as_told.3;
-      costs_add_up = c.costs_add_up.ensures tree assigned work chain filled known;
-      chain_adds_up = c.chain_adds_up.ensures tree assigned work chain filled known;
+      costs_add_up = c.costs_add_up.ensures tree assigned work chain known;
+      chain_adds_up = c.chain_adds_up.ensures tree assigned work chain known;
       waits_add_up = λ with.
-          c.affinity_waits_add_up.ensures tree assigned work filled known start as_told.1
-          (subst (λ cs. AreTheParts cs work start (runs_in assigned) lines as_told.1) with as_told.3);
+          c.affinity_waits_add_up.ensures tree assigned work known start as_told.1
+          (subst (λ cs. AreTheParts cs work start (runs_in tree assigned) lines as_told.1) with as_told.3);
       lines = as_told.4;
     })
     c.affinities_text.ensures

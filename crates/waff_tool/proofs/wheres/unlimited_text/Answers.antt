@@ -28,6 +28,6 @@ returns c =
       starts = found.certified.plan.starts;
       chain = found.certified.chain.messages;
       chained = found.ensures.certified;
-      spent = subst (λ ch. TellsSpent c.args.label c.args.columns instance start ch (string_bytes text)) c.messages.ensures told;
+      spent = subst (λ ch. TellsSpent c.args.locks c.args.label c.args.columns instance start ch (string_bytes text)) c.messages.ensures told;
     })
     c.planned_text-text.ensures

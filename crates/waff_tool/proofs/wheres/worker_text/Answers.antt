@@ -28,7 +28,7 @@ returns c =
     let found = c.in_ok-bounded in
     let made = found.bounded.made.plan in
     let instance = instance_of c.args.case.now in
-    let IsText : Timetable → List ℕ → List ℕ → Type 0 = λ plan chain text. TellsSpent c.args.label c.args.columns instance (start_of plan.starts) chain text in
+    let IsText : Timetable → List ℕ → List ℕ → Type 0 = λ plan chain text. TellsSpent c.args.locks c.args.label c.args.columns instance (start_of plan.starts) chain text in
     IfOk-weaker c.planned_text-text.result _ _
     (λ text told. record {
       starts = made.starts;

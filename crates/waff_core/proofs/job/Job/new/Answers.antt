@@ -8,7 +8,7 @@ invariant_of-result c =
     let made = c.in-Ok.ensures.parts in
     rw (made.kept, made.copied)
     (job_of c.args.layout c.args.trace c.args.assigned c.args.needs c.args.order.now (operations c.args.trace.messages) c.in-Ok.owners
-    made.is_layout made.is_trace c.requires.fits c.requires.assignment.count c.requires.assignment.lowest c.requires.known
+    made.is_layout made.is_trace c.requires.fits c.requires.unlocked c.requires.assignment c.requires.known
     c.requires.needs c.in-Ok.ensures.order refl made.are_owners)
 
 pub returns-in-Ok-clause-kept : goal.returns-in-Ok-clause-kept
@@ -25,5 +25,5 @@ returns-in-Ok-clause-job c =
     let made = c.in-Ok.ensures.parts in
     rw (made.kept, made.copied)
     (job_of c.args.layout c.args.trace c.args.assigned c.args.needs c.args.order.now (operations c.args.trace.messages) c.in-Ok.owners
-    made.is_layout made.is_trace c.requires.fits c.requires.assignment.count c.requires.assignment.lowest c.requires.known
+    made.is_layout made.is_trace c.requires.fits c.requires.unlocked c.requires.assignment c.requires.known
     c.requires.needs c.in-Ok.ensures.order refl made.are_owners)

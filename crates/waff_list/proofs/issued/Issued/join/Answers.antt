@@ -1,7 +1,6 @@
 use Rattle.std.proofs.Common.{◌≡◌, ℕ, ◌-◌, ◌<◌, ◌≤◌, ◌∷◌, ◌++◌, [], List, length, map, get_or, take, Contains, arith, refl, sym, ◌∙◌, ap, subst}
 use Rattle.std.proofs.lemmas.List.{get_or_default, length_push, map_push, take_more}
 use Rattle.std.proofs.lemmas.List.Elements.{Contains-get_or}
-use Rattle.waff_order.specs.Joined.{HaveJoined}
 use Rattle.waff_order.specs.Needs.{AreLists, IsNeed, needs_of}
 use Rattle.waff_list.specs.Issuing.{served_at}
 use Rattle.waff_list.proofs.issued.Issued.join.Goals as goal
@@ -52,7 +51,3 @@ loop-place-preserved c =
           ∙ sym (map_push names (take at places) (get_or places at 0))
           ∙ ap (map names) (sym (take_more places at 0 (omega (arith, c.loop-place-test.true, c.loop-place.auto.place-index-end))));
     }
-
-pub returns-clause-joined : goal.returns-clause-joined
-returns-clause-joined c tree assigned old =
-    subst (λ a. HaveJoined tree c.args.self.now.spans.now (assigned ++ a ∷ []) c.join.new.self) c.of.ensures (c.in_ok-join.ensures.joined tree assigned old)

@@ -1,7 +1,9 @@
-use Rattle.std.proofs.Common.{refl}
-use Rattle.waff_plan.proofs.Tables.{table_none}
+use Rattle.std.proofs.Common.{arith}
 use Rattle.waff_plan.proofs.table.Table.new.Goals as goal
 
 pub returns-clause-table : goal.returns-clause-table
-returns-clause-table c = λ spans assigned finish.
-    table_none spans assigned finish c.args.count _ c.in_ok-none.ensures c.in_ok-none-2.ensures refl
+returns-clause-table c = λ finish. record {
+  numbers = λ i there. absurd (omega (arith, there.1));
+  places = c.in_ok-new.ensures.table c.spans.result.now c.args.assigned.now finish;
+  locks = c.in_ok-new-2.ensures.table c.args.assigned.now finish;
+}

@@ -1,0 +1,7 @@
+use Rattle.std.specs.Prelude.{option_map}
+use Rattle.std.proofs.Common.{◌≡◌, [], take}
+use Rattle.waff_limits.specs.Writes.{cells_alone}
+use Rattle.waff_limits.proofs.writes.needs_none.Given as goal
+
+abbrev pub invariant-loop-index : goal.invariant-loop-index
+invariant-loop-index l = cells_alone (option_map (λ l. l.now.spaces) l.sharing) (take l.index l.ops) ≡ []

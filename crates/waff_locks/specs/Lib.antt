@@ -1,0 +1,6 @@
+pub mod Candidates
+pub mod Sets
+pub mod Steps
+pub mod Known
+pub mod LocksText
+pub mod Laws
