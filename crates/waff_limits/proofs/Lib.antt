@@ -19,7 +19,7 @@ pub mod Searching
 pub mod Sharing
 pub mod SharedCells
 mod Ranges
-mod LockLaws
+pub mod LockLaws
 pub mod WrittenCells
 pub mod SkyLemmas
 pub mod Skyline
