@@ -6,7 +6,7 @@ import re
 from dataclasses import dataclass
 from itertools import combinations
 
-from clients import Plan, World
+from worlds import Plan, World
 
 
 @dataclass(slots=True)

@@ -5,11 +5,12 @@ import random
 from collections.abc import Callable
 from dataclasses import dataclass, field
 
-from clients import World, trace_of, tree_of
 from common import Count
 from judging import Row, faults_of_order, most_told
 from making import pieces
 from rooms import leaves, trace_text
+from traces import trace_of, tree_of
+from worlds import World
 
 # How many seconds a run may take longer than its messages wait, on a machine that has other work.
 PATIENCE = 1.2
