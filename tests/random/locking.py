@@ -14,7 +14,7 @@ KINDS = ("exclusive", "shared")
 
 def random_locks(dice: random.Random, spaces: Iterable[str]) -> dict[str, str]:
     """Kinds of locks by the names of spaces, of which some have none."""
-    kinds = {space: dice.choice([None, *KINDS]) for space in spaces}
+    kinds = {space: dice.choice([None, *KINDS, "shared"]) for space in spaces}
     return {space: kind for space, kind in kinds.items() if kind}
 
 

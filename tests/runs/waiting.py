@@ -188,7 +188,7 @@ def ran_by(world: World, rule: Rule) -> list[Row]:
         found = [Awaited(rows[other].finish, gap) for other, gap in it.after.items()]
         found += [Awaited(rows[other].finish, gap, True) for other, gap in world.own[m].items()]
         start = max(world.floor(m), rule(found))
-        rows.append(Row(start, start + it.cost, world.tree.names[world.affinities[m]], m + 1))
+        rows.append(Row(start, start + it.cost, world.name(m), m + 1))
     return rows
 
 
