@@ -189,14 +189,20 @@ def waits_text(plan: Plan, by_names: bool) -> str:
             return ("-", "-") if by_names else ("-",)
         return (world.messages[m].name, world.name(m)) if by_names else (world.name(m),)
 
+    def by(m: int, other: int | None) -> tuple[str, ...]:
+        """Under a hierarchy with locks the space of the lock that a message waits for."""
+        cell = None if other is None else world.waits_by(m, other)
+        return () if not world.tree.locks else ("-",) if cell is None else (cell[0],)
+
     # For each pair the first message that waits so, whether it is for a worker, and the ticks of each.
     found: dict[tuple[tuple[str, ...], tuple[str, ...], bool], tuple[int, list[int]]] = {}
     for m in world.all:
         issue, ready, start = plan.issued(m), plan.ready(m), plan.starts[m] or 0
         for other, ticks in ((plan.last_waited_for(m), ready - issue), (None, start - ready)):
             if ticks:
-                found.setdefault((words(m), words(other), other is None), (m, []))[1].append(ticks)
-    rows = ["name,affinity,forname,foraffinity,messages,ticks,longest" if by_names else "affinity,for,messages,ticks,longest"]
+                found.setdefault((words(m), words(other) + by(m, other), other is None), (m, []))[1].append(ticks)
+    kinds = ["name,affinity,forname,foraffinity" if by_names else "affinity,for", *(["by"] if world.tree.locks else [])]
+    rows = [",".join([*kinds, "messages,ticks,longest"])]
     for (waiting, waited, _), (_, waits) in sorted(found.items(), key=lambda it: (-sum(it[1][1]), it[1][0], it[0][2])):
         rows.append(",".join([*waiting, *waited, str(len(waits)), str(sum(waits)), str(max(waits))]))
     return lines(rows)
@@ -209,11 +215,15 @@ def worst_text(plan: Plan, most: int) -> str:
     def words(m: int) -> list[object]:
         return [m + 1, world.messages[m].name, world.name(m)]
 
-    rows = ["message,name,affinity,client,issue,ready,start,finish,latency,for,forname,foraffinity"]
+    rows = ["message,name,affinity,client,issue,ready,start,finish,latency,for,forname,foraffinity" + (",by" if world.tree.locks else "")]
     for m in sorted(world.all, key=lambda it: (-plan.latency(it), it))[:most]:
         issue, ready, last = plan.issued(m), plan.ready(m), plan.last_waited_for(m)
         found = [*words(m), world.messages[m].client or "-", issue, ready, plan.starts[m], plan.finish(m), plan.latency(m)]
-        found += ["-", "-", "-"] if last is None or ready == issue else words(last)
+        waited = None if last is None or ready == issue else last
+        found += ["-", "-", "-"] if waited is None else words(waited)
+        if world.tree.locks:
+            cell = None if waited is None else world.waits_by(m, waited)
+            found.append("-" if cell is None else "{}:{}".format(*cell))
         rows.append(",".join(map(str, found)))
     return lines(rows)
 

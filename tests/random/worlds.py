@@ -57,6 +57,10 @@ class World:
         first, second = self.locks[one], self.locks[other]
         return min((it for it in first if it in second and (first[it] or second[it])), key=self.place, default=None)
 
+    def waits_by(self, one: int, other: int) -> Cell | None:
+        """The cell by whose lock two messages exclude each other; None where they do by their affinities."""
+        return None if (self.affinities[one], self.affinities[other]) in self.pairs else self.lock_between(one, other)
+
     def held(self, message: int) -> set[Place]:
         """The places of a message: its affinity, and its locks below the root."""
         tree, affinity = self.tree, self.affinities[message]
