@@ -6,8 +6,8 @@ r"""Transcripts: cases of what programs are asked, and of what they print. Each 
     ! waff: Trace.Cost 2
     status 3
 
-The case runs in a folder with the files of examples/, with the folders that lie beside the transcript, as `inputs`, and with `box` of
-tests/workloads. Lines of bash lay its other files there; then comes the command, of `waff`, of workloads/ or of the transcript's folder,
+The case runs in a folder with the files of examples/, with the folders that lie beside the transcript, as `inputs`, and with `box` and `nfs3`
+of tests/workloads. Lines of bash lay its other files there; then comes the command, of `waff`, of workloads/ or of the transcript's folder,
 and what it prints: `| ` stands before a line of standard output, `! ` before one of standard error, and the status is told if it is not
 0. A line `|\` says that the one before it does not end. `| ...` or `! ...` is any text but none: clap's words are free.
 """
@@ -26,8 +26,8 @@ from itertools import repeat
 
 from common import ROOT, Count
 
-# A recorded log with its hierarchy and traces.
-BOX = ROOT / "tests" / "workloads" / "box"
+# Recorded logs with their hierarchies and traces.
+LOGS = {ROOT / "tests" / "workloads" / name for name in ("box", "nfs3")}
 
 # The seconds after which a command counts as one that hangs.
 SECONDS = "60"
@@ -52,7 +52,7 @@ class Case:
         with tempfile.TemporaryDirectory(prefix="waff-commands-") as name:
             folder = pathlib.Path(name)
             files = shutil.copytree(ROOT / "examples", folder / "files")
-            for beside in {BOX, *filter(pathlib.Path.is_dir, self.folder.iterdir())}:
+            for beside in {*LOGS, *filter(pathlib.Path.is_dir, self.folder.iterdir())}:
                 shutil.rmtree(files / beside.name, ignore_errors=True)
                 (files / beside.name).symlink_to(beside)
             (folder / "waff").symlink_to(program)

@@ -4,7 +4,7 @@ explanation of a fault has what was found and what is wanted.
 In a block, a line that begins with `$ ` is a command, and the lines under it, up to a blank one or one that begins with `# `, are
 what it prints; a line `...` stands for lines that are left out. A call of waff has to be a case: the same words (but for
 `examples/`), what lays its files among the commands above it (but for what takes a file that cases share), and the output shown;
-what it prints by `>` to a file is not shown. A code span that begins with `waff: ` has to be the standard error of a case, a picture
+what it prints by `>` to a file is not shown. Each speed-up of the guide's table of locks is one that a case of locks.txt prints. A code span that begins with `waff: ` has to be the standard error of a case, a picture
 in SVG its standard output (of charts tests/report/run tells), and a block marked `toml` or `csv` a file that cases share.
 """
 
@@ -23,7 +23,7 @@ NO_CASE = {"waff: Memory", "waff: Run", "waff: Threads 1", "waff: Drift 12"}
 
 def shows(case: Case, call: str, commands: set[str], output: list[str]) -> bool:
     words, _, kept = call.replace("examples/", "").replace("< ", "<").removeprefix("./").removeprefix("dist/").partition(" >")
-    setup = {line for line in case.setup.splitlines() if not line.startswith(("#", "cp box/")) and "inputs/" not in line}
+    setup = {line for line in case.setup.splitlines() if not line.startswith(("#", "cp box/", "cp nfs3/")) and "inputs/" not in line}
     printed = ("" if kept else case.stream("|")) + case.stream("!")
     return case.command == words and setup <= commands and re.fullmatch(pattern(output), printed) is not None
 
@@ -64,6 +64,11 @@ def faults(commands: list[str]) -> list[str]:
         for picture in re.findall(r"!\[[^]]*\]\(([^)]+\.svg)\)", page):
             if "charts/" not in picture and read((ROOT / name).parent / picture) not in printed:
                 found.append(f"{name}: no case prints this: {picture}")
+        for row in re.findall(r"^\| Speed-up on eight workers .*\n((?:\|.*\n)+)", page, re.M):
+            printed_there = "".join(case.stream("|") for case in cases(HERE / "locks.txt"))
+            for figure in re.findall(r"\b\d+\.\d\d\b", row):
+                if f",{figure}," not in printed_there:
+                    found.append(f"{name}: no case of locks.txt prints this speed-up: {figure}")
         for block in re.findall(r"^```(?:toml|csv)\n(.*?)^```$", page, re.M | re.S):
             if block not in files:
                 found.append(f"{name}: no case has this file: {block.splitlines()[:1]}")

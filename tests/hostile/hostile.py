@@ -27,8 +27,8 @@ HANGS = 100
 
 FAULT = re.compile(rb"waff: [A-Z][A-Za-z]*(\.[A-Z][A-Za-z]*)*( [0-9]+)?( [0-9A-Z][0-9A-Za-z]*)?\n")
 
-# The words of each command. A letter in braces is a file: H a hierarchical tree, C a classical one, T a trace, P its
-# unlimited plan under H, K its plan for two workers, and F the first with a fault, which is named by threads.
+# The words of each command. A letter in braces is a file: H a hierarchical tree, C a classical one, S the first one with locks, T a trace, P its
+# unlimited plan under H, Q that under S, K its plan for two workers, and F the first with a fault, which is named by threads.
 WORDS = (
     "assign {H} {T}",
     "plan {H} {T}",
@@ -67,6 +67,12 @@ WORDS = (
     "explain {H} {T}",
     "explain {H} {T} {P}",
     "explain {H} {T} {F}",
+    "assign {S} {T}",
+    "plan {S} {T} --workers 2",
+    "check {S} {T} {Q}",
+    "limits {S} {T} --workers 2",
+    "locks {S} {T} --shared",
+    "explain {S}",
 )
 
 # The sample traces: without releases, with them, and with clients.
@@ -128,6 +134,7 @@ class Files:
         """The files with the plans that the program prints of them."""
         self.lay(files)
         made = {"P": run(self.words("plan {H} {T}")).stdout, "K": run(self.words("plan {H} {T} --workers 2")).stdout}
+        made |= {"Q": run(self.words("plan {S} {T}")).stdout}
         made["F"] = re.sub(rb"\n3,VolA,\d+,\d+,-\n", b"\n3,VolA,3,5,-\n", made["P"])
         self.lay(made)
         return {**files, **made}
@@ -259,7 +266,15 @@ def trace_of(name: str) -> bytes:
 
 def samples(trace: str = "X1.csv") -> dict[str, bytes]:
     """The sample files by the letters that words name them with."""
-    return {"H": read("examples", "H1.toml"), "C": read("examples", "C1.toml"), "T": trace_of(trace)}
+    return {"H": read("examples", "H1.toml"), "C": read("examples", "C1.toml"), "S": with_locks(read("examples", "H1.toml")), "T": trace_of(trace)}
+
+
+def with_locks(hierarchy: bytes) -> bytes:
+    """The first sample as one of format 3, where the space f has locks that readers share, and g exclusive ones and no map."""
+    text = b"format = 3\n" + hierarchy
+    for name, kind in ((b"f", b"shared"), (b"g", b"exclusive")):
+        text = text.replace(b'name = "%s"\n' % name, b'name = "%s"\nlocks = "%s"\n' % (name, kind))
+    return re.sub(rb'\[\[map\]\]\nspace = "g"\n(?:[a-z]+ = .*\n)+', b"", text)
 
 
 def known_words() -> tuple[str, ...]:

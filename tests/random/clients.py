@@ -1,288 +1,57 @@
 #!/usr/bin/env python3
-"""A plain planner of traces with clients, by definition and slowly: what waff prints of traces of all four versions.
+"""A plain planner of traces with clients, by definition and slowly: what waff prints of traces of all four versions, under hierarchies of
+all formats.
 
-    tests/random/clients.py COMMAND FILE ..      assign, plan, check, replay, compare, sweep, limits, rate, rank, waits, where, why, needs or draw, as
-                                                 waff has them
+    tests/random/clients.py COMMAND FILE ..      assign, plan, check, replay, compare, sweep, limits, locks, rate, rank, waits, where, why, needs
+                                                 or draw, as waff has them
 
-Of `draw` it has events alone. It has no proof and shares no line with the program. A hierarchy has to be right but for its sizes; traces and plan texts are refused as
-waff does. Plans are made from tick to tick, over all pairs of messages, so take some hundred messages at most.
+Of `draw` it has events alone. It has no proof and shares no line with the program. A hierarchy has to be right but for its sizes; traces and
+plan texts are refused as waff does. Plans are made from tick to tick, over all pairs of messages, so take some hundred messages at most.
 """
 
 import json
 import sys
 from argparse import ArgumentParser, Namespace
 from collections import Counter
-from collections.abc import Callable, Iterable, Iterator, Sequence
-from dataclasses import dataclass
+from collections.abc import Callable, Iterator, Sequence
+from dataclasses import dataclass, replace
 from itertools import pairwise, product
 
-from traces import MOST_CELLS, NAME, Cell, Fault, Message, Trace, Tree, is_number, read_text, read_tree, records_of, trace_of, tree_of
+from traces import MOST_CELLS, NAME, Cell, Fault, Trace, is_number, read_text, read_tree, records_of, trace_of, tree_of
+from worlds import Place, Plan, World, plan_of
 
 MOST_IN_PLAN = 10**15
 SWEPT = "1,2,3,4,6,8,12,16,24,32,48,64"
 FIGURES = ("length", "speedup", "busy", "least", "over", "waits", "mean", "p50", "p99", "latency")
 
-# Plans
-
-
-class World:
-    """A trace under a tree: the affinity of each message, which messages exclude each other, the one before each of its client, and the
-    gap of each that it awaits, of its client alone and of all. Messages are numbered from 0 here."""
-
-    def __init__(self, tree: Tree, trace: Trace) -> None:
-        self.tree = tree
-        self.version = trace.version
-        self.messages = trace.messages
-        self.all = range(len(trace.messages))
-        self.affinities = [tree.lowest({tree.owner(*cell) for cell in cells_of(it)}) for it in trace.messages]
-        self.total = sum(it.cost for it in trace.messages)
-        self.befores = [self.one_before(it) for it in self.all]
-        self.own = [self.own_of(it) for it in self.all]
-        self.awaits = [self.awaited_by(it) for it in self.all]
-        names = range(len(tree.names))
-        self.pairs = {(one, other) for one in names for other in names if tree.excludes(one, other)}
-        self.excluding = [[it for it in self.all if self.excludes(it, m)] for m in self.all]
-
-    def excludes(self, one: int, other: int) -> bool:
-        return one != other and (self.affinities[one], self.affinities[other]) in self.pairs
-
-    def one_before(self, message: int) -> int | None:
-        client = self.messages[message].client
-        found = [it for it in range(message) if client is not None and self.messages[it].client == client]
-        return found[-1] if found else None
-
-    def own_of(self, message: int) -> dict[int, int]:
-        """What a message awaits of its client, with the gap."""
-        before = self.befores[message]
-        return {} if before is None else {before: self.messages[message].think}
-
-    def awaited_by(self, message: int) -> dict[int, int]:
-        """What a message awaits, each with the greatest of its gaps."""
-        own, after = self.own[message], self.messages[message].after
-        return {it: max(own.get(it, 0), after.get(it, 0)) for it in own | after}
-
-    def before(self, message: int) -> int | None:
-        """The message before one of its client."""
-        return self.befores[message]
-
-    def floor(self, message: int) -> int:
-        it = self.messages[message]
-        return max(it.release, it.think) if self.version >= 3 and self.before(message) is None else it.release
-
-    def tails(self) -> list[int]:
-        """What the rule `longest` sorts by, of each message."""
-        found: dict[int, int] = {}
-        for m in reversed(self.all):
-            if self.version < 3:
-                below = [found[it] for it in found if self.excludes(it, m)]
-            else:
-                below = [self.awaits[it][m] + found[it] for it in found if m in self.awaits[it]]
-            found[m] = self.messages[m].cost + max(below, default=0)
-        return [found[m] for m in self.all]
-
-    def least(self, workers: int | None) -> int:
-        """A length that no plan for so many workers is below."""
-        found = -(-self.total // workers) if workers else 0
-        if self.version < 3:
-            return max(found, plan_of(self, None).length())
-        return max([found, *self.ends(self.awaits), *self.works()])
-
-    def ends(self, awaits: list[dict[int, int]]) -> list[int]:
-        """When each message has finished at the soonest, if none waits but for what it awaits so."""
-        found = list[int]()
-        for m in self.all:
-            found.append(max([self.floor(m), *(found[it] + gap for it, gap in awaits[m].items())]) + self.messages[m].cost)
-        return found
-
-    def works(self) -> list[int]:
-        """What the messages at or above each affinity cost."""
-        return [self.cost(m for m in self.all if self.affinities[m] in self.tree.way(affinity)) for affinity in range(len(self.tree.names))]
-
-    def cost(self, messages: Iterable[int]) -> int:
-        return sum(self.messages[m].cost for m in messages)
-
-    def place(self, cell: Cell) -> tuple[int, int]:
-        """A cell by the number of its space, then its index."""
-        return list(self.tree.sizes).index(cell[0]), cell[1]
-
-    def footprint(self, message: int) -> list[Cell]:
-        """The cells of a message, each once, in their order."""
-        return sorted(set(cells_of(self.messages[message])), key=self.place)
-
-    def written(self, message: int) -> set[Cell]:
-        """The cells that a message writes."""
-        ops = self.messages[message].ops
-        found = {cell for verb, cell, _ in ops if verb != "read"}
-        return found | {other for verb, _, other in ops if verb == "swap" and isinstance(other, tuple)}
-
-
-def cells_of(message: Message) -> list[Cell]:
-    found = [cell for _, cell, _ in message.ops]
-    return found + [other for _, _, other in message.ops if isinstance(other, tuple)]
-
-
-@dataclass(slots=True)
-class Plan:
-    """The starts and workers of messages, None where there is none (yet). `count` is the number of workers, None for any."""
-
-    world: World
-    count: int | None
-    starts: list[int | None]
-    workers: list[int | None]
-
-    def finish(self, m: int) -> int:
-        start = self.starts[m]
-        assert start is not None
-        return start + self.world.messages[m].cost
-
-    def issue(self, m: int) -> int | None:
-        """When a message is issued; None while that is not known."""
-        awaits = self.world.awaits[m]
-        if any(self.starts[it] is None for it in awaits):
-            return None
-        return max([self.world.floor(m), *(self.finish(it) + gap for it, gap in awaits.items())])
-
-    def issued(self, m: int) -> int:
-        found = self.issue(m)
-        assert found is not None
-        return found
-
-    def issued_before(self, one: int, other: int) -> bool:
-        """In versions 1 and 2 the order is that of the numbers."""
-        if self.world.version < 3:
-            return one < other
-        first, second = self.issue(one), self.issue(other)
-        return first is not None and (second is None or (first, one) < (second, other))
-
-    def waited_for(self, m: int) -> list[int]:
-        """The messages that exclude one and are issued before it."""
-        return [it for it in self.world.excluding[m] if self.issued_before(it, m)]
-
-    def last_waited_for(self, m: int) -> int | None:
-        """The one of them that finishes last; of several the first."""
-        others = sorted(self.waited_for(m), key=lambda it: (-self.finish(it), it))
-        return others[0] if others else None
-
-    def ready(self, m: int) -> int:
-        """When a message waits for a worker alone."""
-        last = self.last_waited_for(m)
-        return max(self.issued(m), 0 if last is None else self.finish(last))
-
-    def waits(self, m: int) -> int:
-        return max(0, (self.starts[m] or 0) - self.issued(m))
-
-    def latency(self, m: int) -> int:
-        return max(0, self.finish(m) - self.issued(m))
-
-    def runs(self, m: int, tick: int) -> bool:
-        start = self.starts[m]
-        return start is not None and start <= tick < self.finish(m)
-
-    def has_finished(self, m: int, tick: int) -> bool:
-        return self.starts[m] is not None and self.finish(m) <= tick
-
-    def is_ready(self, m: int, tick: int) -> bool:
-        issue = self.issue(m)
-        if self.starts[m] is not None or issue is None or issue > tick:
-            return False
-        return all(self.has_finished(it, tick) for it in self.waited_for(m))
-
-    def length(self) -> int:
-        return max((self.finish(m) for m in self.world.all), default=0)
-
-    def gap(self, one: int, other: int) -> int:
-        return self.world.awaits[other].get(one, 0)
-
-    def is_link(self, one: int, other: int) -> bool:
-        if self.world.version < 3:
-            return one < other and self.world.excludes(one, other)
-        start, end = self.starts[one], self.starts[other]
-        assert start is not None and end is not None
-        return one in self.world.awaits[other] or self.world.excludes(one, other) and start < end
-
-    def chain(self) -> list[int]:
-        """The printed chain."""
-        world = self.world
-        if not world.messages:
-            return []
-        found = [min(world.all, key=lambda m: (-self.finish(m), m))]
-        while True:
-            m = found[0]
-            links = [it for it in world.all if self.is_link(it, m)]
-            first = min(links, key=lambda it: (-self.finish(it) - self.gap(it, m), it), default=None)
-            if first is None or world.floor(m) >= self.finish(first) + self.gap(first, m):
-                return found
-            found.insert(0, first)
-
-    def chain_release(self, chain: list[int]) -> int:
-        return (self.world.floor(chain[0]) if chain else 0) + sum(self.gap(*it) for it in pairwise(chain) if self.is_link(*it))
-
-    def summary(self, chain: list[int]) -> dict[str, tuple[int, ...]]:
-        """The numbers below the rows, with this chain."""
-        release, cost = self.chain_release(chain), sum(self.world.messages[m].cost for m in chain)
-        total, length, k = self.world.total, self.length(), self.count
-        bound = (length, release + cost) if k is None else (k * length, total + k * release + (k - 1) * cost)
-        found = {"total": (total,), "length": (length,), "chain": tuple(m + 1 for m in chain)}
-        if self.world.version > 1:
-            found["release"] = (release,)
-        return found | {"cost": (cost,), "bound": bound}
-
-
-def plan_of(world: World, workers: int | None, rule: str = "arrival") -> Plan:
-    """The plan of waff: from tick to tick, each at which a message is issued or one has finished."""
-    plan = Plan(world, workers, [None for _ in world.all], [None for _ in world.all])
-    tick, tails = 0, world.tails()
-    while None in plan.starts:
-        ready = [m for m in world.all if plan.is_ready(m, tick)]
-        busy = {plan.workers[m] for m in world.all if plan.runs(m, tick)}
-        free = [it for it in range(1, (workers or 0) + 1) if it not in busy]
-        if workers is not None:
-            # By the issues first; the other sort keeps the order of those with equal tails.
-            ready.sort(key=lambda m: (plan.issued(m), m) if world.version >= 3 else (m,))
-            if rule == "longest":
-                ready.sort(key=lambda m: tails[m], reverse=True)
-            ready = sorted(ready[: len(free)])
-            for m, worker in zip(ready, free):
-                plan.workers[m] = worker
-        for m in ready:
-            plan.starts[m] = tick
-        later = [plan.finish(m) for m in world.all if plan.starts[m] is not None]
-        later += [it for m in world.all if (it := plan.issue(m)) is not None]
-        tick = min((it for it in later if it > tick), default=tick)
-    is_as_defined(plan)
-    return plan
-
-
-def is_as_defined(plan: Plan) -> None:
-    """The plan obeys and is in order, and one without workers starts each message when it is ready."""
-    for m in plan.world.all:
-        ready = max([plan.issued(m), *(plan.finish(it) for it in plan.waited_for(m))])
-        start = plan.starts[m]
-        assert start is not None and (start == ready if plan.count is None else start >= ready), f"message {m + 1}: {start}, {ready}"
-    ticks = {it for it in plan.starts if it is not None}
-    assert plan.count is None or all(sum(plan.runs(m, tick) for m in plan.world.all) <= plan.count for tick in ticks)
-
-
 # Texts
 
 
 def assign_text(world: World) -> str:
-    rows = [f"{m + 1},{world.messages[m].name},{world.tree.names[world.affinities[m]]}" for m in world.all]
+    rows = [f"{m + 1},{world.messages[m].name},{world.name(m)}" for m in world.all]
     return lines(["message,name,affinity", *rows])
 
 
 def needs_text(world: World) -> str:
-    """For which earlier messages each one waits, by number: the open ones at or below it, else the latest one above it. A message is
-    open until a later one is at or above it."""
+    """For which earlier messages each one waits, by number: at each place that it holds the open ones at or below it, else the latest one
+    that holds a place above it."""
+    held = [world.held(m) for m in world.all]
 
-    def is_above(one: int, other: int) -> bool:
-        return world.affinities[one] in world.tree.way(world.affinities[other])
+    def holds_above(m: int, place: Place) -> bool:
+        """Whether a message holds this place or one above it."""
+        return any(place[:depth] in held[m] for depth in range(1, len(place) + 1))
+
+    def is_open(it: int, place: Place, m: int) -> bool:
+        """Whether no message since one that holds a place, up to another, holds it or a place above."""
+        return not any(holds_above(later, place) for later in range(it + 1, m))
 
     rows = ["message,needs"]
     for m in world.all:
-        found = [it for it in range(m) if is_above(m, it) and not any(is_above(later, it) for later in range(it + 1, m))]
-        found = found or [it for it in range(m) if is_above(it, m)][-1:]
-        rows.append(f"{m + 1}," + " ".join(str(it + 1) for it in found))
+        found = set[int]()
+        for place in held[m]:
+            below = {it for it in range(m) for at in held[it] if at[: len(place)] == place and is_open(it, at, m)}
+            found |= below or {*[it for it in range(m) if holds_above(it, place)][-1:]}
+        rows.append(f"{m + 1}," + " ".join(str(it + 1) for it in sorted(found)))
     return lines(rows)
 
 
@@ -295,7 +64,7 @@ def plan_text(plan: Plan, chain: list[int] | None = None) -> str:
     world = plan.world
     rows = ["message,affinity,start,finish,worker"]
     for m in world.all:
-        rows.append(f"{m + 1},{world.tree.names[world.affinities[m]]},{plan.starts[m]},{plan.finish(m)},{plan.workers[m] or '-'}")
+        rows.append(f"{m + 1},{world.name(m)},{plan.starts[m]},{plan.finish(m)},{plan.workers[m] or '-'}")
     rows.append(f"workers,{plan.count or '-'}")
     for name, numbers in plan.summary(plan.chain() if chain is None else chain).items():
         rows.append(f"{name}," + (" " if name == "chain" else ",").join(map(str, numbers)))
@@ -342,32 +111,47 @@ def limits_text(world: World, counts: list[int], rule: str) -> str:
     ends, awaited = world.ends(world.own), world.ends(world.awaits)
     client = max(world.all, key=lambda m: ends[m], default=None)
     message = max(world.all, key=lambda m: awaited[m], default=None)
-    used: Counter[Cell] = Counter()
-    written: Counter[Cell] = Counter()
-    read: dict[Cell, int] = {}
-    for m in world.all:
-        cost, own = world.messages[m].cost, world.written(m)
-        for it in world.footprint(m):
-            used[it] += cost
-            if it in own:
-                written[it] += cost
-            else:
-                read[it] = max(read.get(it, 0), cost)
-    cell = min(used, key=lambda it: (-used[it], world.place(it)), default=None)
-    shared = {it: written[it] + read.get(it, 0) for it in used}
-    of_writes = min(shared, key=lambda it: (-shared[it], world.place(it)), default=None)
     affinity = max(range(len(works)), key=lambda a: works[a])
     found: list[tuple[str, int | None, int, str]] = [("work", k, -(-world.total // k), "-") for k in counts]
     found.append(("clients", None, max(ends, default=0), "-" if client is None else world.messages[client].client or "-"))
     if world.version == 4:
         found.append(("after", None, max(awaited, default=0), "-" if message is None else str(message + 1)))
-    found.append(("writes", None, shared[of_writes] if of_writes else 0, "{}:{}".format(*of_writes) if of_writes else "-"))
-    found.append(("data", None, used[cell] if cell else 0, "{}:{}".format(*cell) if cell else "-"))
-    found.append(("tree", None, works[affinity], world.tree.names[affinity] if world.messages else "-"))
+    found.append(("writes", None, *world.greatest(world.writes())))
+    found.append(("data", None, *world.greatest(world.data())))
+    found.append(("tree", None, works[affinity], "-" if all(it is None for it in world.affinities) else world.tree.names[affinity]))
+    if world.tree.locks:
+        found.append(("locks", None, *world.greatest(world.queues())))
     found.append(("order", None, plan_of(world, None).length(), "-"))
     found += [("plan", k, plan_of(world, k, rule).length(), "-") for k in counts]
     rows = [f"{name},{workers or '-'},{length},{ratio(world.total, length)},{at}" for name, workers, length, at in found]
     return lines(["limit,workers,length,speedup,at", *rows])
+
+
+def locks_text(world: World, workers: int | None, rule: str, kind: str, steps: int) -> str:
+    """What locks of a kind would give: the figures of limits with none more, each of the spaces that could have them alone, one more each
+    time, and all."""
+    tree, trace = world.tree, Trace(world.version, world.messages)
+    named = {space for m in world.all for space, _ in world.footprint(m)}
+    candidates = [it for it in tree.sizes if it in named and (it not in tree.locks or tree.locks[it] != kind == "shared")]
+
+    def row(words: str, spaces: list[str]) -> tuple[tuple[int, ...], str]:
+        """By what a set of spaces is taken, and its line."""
+        it = World(replace(tree, locks=tree.locks | dict.fromkeys(spaces, kind)), trace)
+        order, plan = plan_of(it, None).length(), plan_of(it, workers, rule).length()
+        uses = [alone for locks in it.locks for alone in locks.values()]
+        top, queue = max(it.works()), it.greatest(it.queues())[0]
+        told = [words, top, queue, order, plan if workers else "-", ratio(it.total, plan), sum(map(bool, it.locks)), sum(uses), len(uses) - sum(uses)]
+        return (plan, order, max(top, queue), len(uses)), ",".join(map(str, told))
+
+    rows = ["what,space,tree,locks,order,plan,speedup,messages,alone,shared", row("as it is,-", [])[1]]
+    rows += [row(f"one,{it}", [it])[1] for it in candidates]
+    taken = list[str]()
+    for _ in range(min(steps, len(candidates))):
+        # Of equal ones the first.
+        best = min((it for it in candidates if it not in taken), key=lambda it: row("", [*taken, it])[0])
+        taken.append(best)
+        rows.append(row(f"then,{best}", taken)[1])
+    return lines([*rows, row("all,-", candidates)[1]])
 
 
 def rank_text(worlds: list[World], workers: int, rule: str) -> str:
@@ -392,7 +176,8 @@ def compare_text(worlds: list[World], workers: int) -> str:
             words += [*found["length"], *(found["release"] if has_releases else ()), *found["cost"]]
         rows.append(",".join(map(str, [*words, *found["bound"]])))
     refines = all(one.excludes(i, j) for i in other.all for j in other.all if other.excludes(i, j))
-    return lines([*rows, f"refines,{'yes' if refines else 'no'}"])
+    has_locks = any(it.tree.locks for it in worlds)
+    return lines([*rows, f"refines,{'-' if has_locks else 'yes' if refines else 'no'}"])
 
 
 def waits_text(plan: Plan, by_names: bool) -> str:
@@ -402,8 +187,12 @@ def waits_text(plan: Plan, by_names: bool) -> str:
     def words(m: int | None) -> tuple[str, ...]:
         if m is None:
             return ("-", "-") if by_names else ("-",)
-        affinity = world.tree.names[world.affinities[m]]
-        return (world.messages[m].name, affinity) if by_names else (affinity,)
+        return (world.messages[m].name, world.name(m)) if by_names else (world.name(m),)
+
+    def by(m: int, other: int | None) -> tuple[str, ...]:
+        """Under a hierarchy with locks the space of the lock that a message waits for."""
+        cell = None if other is None else world.waits_by(m, other)
+        return () if not world.tree.locks else ("-",) if cell is None else (cell[0],)
 
     # For each pair the first message that waits so, whether it is for a worker, and the ticks of each.
     found: dict[tuple[tuple[str, ...], tuple[str, ...], bool], tuple[int, list[int]]] = {}
@@ -411,8 +200,9 @@ def waits_text(plan: Plan, by_names: bool) -> str:
         issue, ready, start = plan.issued(m), plan.ready(m), plan.starts[m] or 0
         for other, ticks in ((plan.last_waited_for(m), ready - issue), (None, start - ready)):
             if ticks:
-                found.setdefault((words(m), words(other), other is None), (m, []))[1].append(ticks)
-    rows = ["name,affinity,forname,foraffinity,messages,ticks,longest" if by_names else "affinity,for,messages,ticks,longest"]
+                found.setdefault((words(m), words(other) + by(m, other), other is None), (m, []))[1].append(ticks)
+    kinds = ["name,affinity,forname,foraffinity" if by_names else "affinity,for", *(["by"] if world.tree.locks else [])]
+    rows = [",".join([*kinds, "messages,ticks,longest"])]
     for (waiting, waited, _), (_, waits) in sorted(found.items(), key=lambda it: (-sum(it[1][1]), it[1][0], it[0][2])):
         rows.append(",".join([*waiting, *waited, str(len(waits)), str(sum(waits)), str(max(waits))]))
     return lines(rows)
@@ -423,13 +213,17 @@ def worst_text(plan: Plan, most: int) -> str:
     world = plan.world
 
     def words(m: int) -> list[object]:
-        return [m + 1, world.messages[m].name, world.tree.names[world.affinities[m]]]
+        return [m + 1, world.messages[m].name, world.name(m)]
 
-    rows = ["message,name,affinity,client,issue,ready,start,finish,latency,for,forname,foraffinity"]
+    rows = ["message,name,affinity,client,issue,ready,start,finish,latency,for,forname,foraffinity" + (",by" if world.tree.locks else "")]
     for m in sorted(world.all, key=lambda it: (-plan.latency(it), it))[:most]:
         issue, ready, last = plan.issued(m), plan.ready(m), plan.last_waited_for(m)
         found = [*words(m), world.messages[m].client or "-", issue, ready, plan.starts[m], plan.finish(m), plan.latency(m)]
-        found += ["-", "-", "-"] if last is None or ready == issue else words(last)
+        waited = None if last is None or ready == issue else last
+        found += ["-", "-", "-"] if waited is None else words(waited)
+        if world.tree.locks:
+            cell = None if waited is None else world.waits_by(m, waited)
+            found.append("-" if cell is None else "{}:{}".format(*cell))
         rows.append(",".join(map(str, found)))
     return lines(rows)
 
@@ -456,8 +250,11 @@ def where_text(plan: Plan, by: str | None, with_figures: bool) -> str:
     for a, name in enumerate(tree.names):
         parent = tree.parents[a]
         found = [m for m in world.all if of[m] == a]
-        below = world.cost(m for m in world.all if a in tree.way(of[m]))
+        below = world.cost(m for m in world.all if a in world.way(m))
         rows.append(row([name, "-" if parent is None else tree.names[parent], len(found), world.cost(found), below], found))
+    if tree.locks:
+        found = [m for m in world.all if of[m] is None]
+        rows.append(row(["-", "-", len(found), world.cost(found), world.cost(found)], found))
     return lines(rows)
 
 
@@ -468,7 +265,9 @@ def why_text(world: World, by_names: bool) -> str:
     kinds: dict[tuple[str, ...], list[int]] = {}
     cells: dict[int, list[Cell]] = {}
     for m in world.all:
-        affinity, footprint = world.affinities[m], world.footprint(m)
+        affinity, footprint = world.affinities[m], [it for it in world.footprint(m) if it[0] not in tree.locks]
+        if affinity is None:
+            continue
         first = footprint[0]
         other = next(it for it in footprint if tree.lowest({tree.owner(*first), tree.owner(*it)}) == affinity)
         if affinity in tree.parents:
@@ -590,7 +389,7 @@ def faults(given: Given) -> Iterator[str]:
         shared = any(given.rows[it][2] == worker and is_common(plan, it, m) for it in range(m))
         if worker != "-" if k is None else worker == "-" or not 1 <= int(worker) <= k or shared:
             yield f"worker,{m + 1}"
-    yield from (f"affinity,{m + 1}" for m in world.all if given.rows[m][0] != world.tree.names[world.affinities[m]])
+    yield from (f"affinity,{m + 1}" for m in world.all if given.rows[m][0] != world.name(m))
     yield from (f"finish,{m + 1}" for m in world.all if given.rows[m][1] != plan.finish(m))
     chain = [it - 1 for it in given.summary["chain"]]
     if plan.summary(chain) != given.summary:
@@ -642,17 +441,20 @@ def events_text(given: Given, first: int, end: int | None) -> str:
     names, workers = world.tree.names, plan.count or 0
     last = max(plan.length(), first + 1) if end is None else end
     lanes = [it for it in world.tree.preorder() if it in world.affinities]
+    loose = loose_lanes(plan)
+    above = len(lanes) + len(set(loose.values()))
 
     def thread_of(process: int, m: int) -> int | None:
         """The thread of a message, if it has one in a process."""
+        affinity = world.affinities[m]
         if process == 1:
-            return lanes.index(world.affinities[m]) + 1
+            return len(lanes) + loose[m] + 1 if affinity is None else lanes.index(affinity) + 1
         worker = given.rows[m][2]
-        return len(lanes) + int(worker) if worker != "-" and 1 <= int(worker) <= workers else None
+        return above + int(worker) if worker != "-" and 1 <= int(worker) <= workers else None
 
-    found: list[dict[str, object]] = list(named_threads("affinities", 1, 1, [names[it] for it in lanes]))
+    found: list[dict[str, object]] = list(named_threads("affinities", 1, 1, [names[it] for it in lanes] + ["-"] * (above - len(lanes))))
     if workers:
-        found += named_threads("workers", 2, len(lanes) + 1, [f"worker {it + 1}" for it in range(workers)])
+        found += named_threads("workers", 2, above + 1, [f"worker {it + 1}" for it in range(workers)])
     for process, m in product((1, 2), world.all):
         thread = thread_of(process, m)
         start = max(plan.starts[m] or 0, first)
@@ -662,6 +464,16 @@ def events_text(given: Given, first: int, end: int | None) -> str:
             found.append({"name": world.messages[m].name, "cat": kind, "ph": "X", "ts": start, "dur": ticks})
             found[-1] |= {"pid": process, "tid": thread, "args": told_of(world, m)}
     return lines(['{"traceEvents":[', ",\n".join(json.dumps(it, separators=(",", ":")) for it in found), "]}"])
+
+
+def loose_lanes(plan: Plan) -> dict[int, int]:
+    """The lane of each message without an affinity: the first that is free, of at most 64 the last where none is."""
+    free, found = [0] * 64, dict[int, int]()
+    for m in sorted((it for it in plan.world.all if plan.world.affinities[it] is None), key=lambda it: (plan.starts[it] or 0, it)):
+        lane = next((at for at, tick in enumerate(free) if tick <= (plan.starts[m] or 0)), 63)
+        free[lane] = max(free[lane], plan.finish(m))
+        found[m] = lane
+    return found
 
 
 def named_threads(process: str, number: int, first: int, threads: list[str]) -> Iterator[dict[str, object]]:
@@ -676,7 +488,7 @@ def named_threads(process: str, number: int, first: int, threads: list[str]) -> 
 def told_of(world: World, m: int) -> dict[str, object]:
     """The arguments of the event of a message."""
     message = world.messages[m]
-    found: dict[str, object] = {"number": m + 1, "name": message.name, "affinity": world.tree.names[world.affinities[m]]}
+    found: dict[str, object] = {"number": m + 1, "name": message.name, "affinity": world.name(m)}
     found["release"] = message.release
     found |= {"client": message.client or "-"} if world.version >= 3 else {}
     return found | ({"after": [it + 1 for it in message.after]} if message.after else {})
@@ -689,7 +501,7 @@ def words() -> ArgumentParser:
     top = ArgumentParser(prog="clients.py", description="Plans traces of all versions plainly, for tests.")
     parts = top.add_subparsers(dest="command", required=True)
     files = {"rank": ["trace"], "compare": ["hier", "other", "trace"]}
-    for name in ("assign", "needs", "plan", "check", "replay", "compare", "sweep", "limits", "rate", "rank", "waits", "where", "why", "draw"):
+    for name in ("assign", "needs", "plan", "check", "replay", "compare", "sweep", "limits", "locks", "rate", "rank", "waits", "where", "why", "draw"):
         part = parts.add_parser(name)
         for it in files.get(name, ["hier", "trace"]):
             part.add_argument(it)
@@ -701,12 +513,15 @@ def words() -> ArgumentParser:
             part.add_argument("--as", dest="form", choices=["events"], required=True)
             part.add_argument("--from", dest="first", type=int, default=0)
             part.add_argument("--to", dest="end", type=int)
-        if name in ("plan", "waits", "where", "rank", "compare", "replay"):
+        if name in ("plan", "locks", "waits", "where", "rank", "compare", "replay"):
             part.add_argument("--workers", "-k", type=int, required=name in ("rank", "compare"))
         if name in ("sweep", "limits"):
             part.add_argument("--workers", "-k", default=SWEPT if name == "sweep" else "")
-        if name in ("plan", "sweep", "limits", "waits", "where", "rank"):
+        if name in ("plan", "sweep", "limits", "locks", "waits", "where", "rank"):
             part.add_argument("--rule", choices=["arrival", "longest"], default="arrival")
+        if name == "locks":
+            part.add_argument("--shared", dest="kind", action="store_const", const="shared", default="exclusive")
+            part.add_argument("--steps", type=int, default=8)
         if name in ("waits", "where", "why"):
             either = part.add_mutually_exclusive_group()
             either.add_argument("--names", dest="by", action="store_const", const="names")
@@ -746,6 +561,7 @@ def answer(asked: Namespace) -> tuple[str, int]:
         "compare": lambda: compare_text(worlds, asked.workers),
         "sweep": lambda: sweep_text(world, counts, asked.rule),
         "limits": lambda: limits_text(world, counts, asked.rule),
+        "locks": lambda: locks_text(world, asked.workers, asked.rule, asked.kind, asked.steps),
         "rank": lambda: rank_text(worlds, asked.workers, asked.rule),
         "waits": lambda: told_waits(plan_of(world, asked.workers, asked.rule), asked),
         "where": lambda: where_text(plan_of(world, asked.workers, asked.rule), asked.by, asked.figures),

@@ -1,5 +1,5 @@
-"""Hierarchies and traces of all four versions as the plain planner beside this reads them. A hierarchy has to be right but for its sizes;
-traces are refused as waff does."""
+"""Hierarchies of all formats and traces of all four versions as the plain planner beside this reads them. A hierarchy has to be right but for
+its sizes; traces are refused as waff does."""
 
 import csv
 import io
@@ -35,7 +35,8 @@ class Fault(Exception):
 
 @dataclass(slots=True)
 class Tree:
-    """Affinities by number, the parent of each (None for the root), and the spaces in their order."""
+    """Affinities by number, the parent of each (None for the root), and the spaces in their order. `locks` are the kinds of locks of the
+    spaces that have some; without a map these are the root's."""
 
     model: str
     names: list[str]
@@ -43,6 +44,11 @@ class Tree:
     sizes: dict[str, int]
     units: dict[str, int]
     owners: dict[str, list[int]]
+    locks: dict[str, str] = field(default_factory=dict)
+
+    @property
+    def root(self) -> int:
+        return self.parents.index(None)
 
     def way(self, affinity: int) -> list[int]:
         """From an affinity up to the root."""
@@ -97,9 +103,11 @@ def read_tree(name: str, number: int = 1) -> Tree:
 def tree_of(text: str, number: int = 1) -> Tree:
     """A hierarchy; `number` is its place among those that are read."""
     table = tomllib.loads(text)
-    is_large = type(table.get("format")) is int and table["format"] == 2
+    number_of_format = table["format"] if type(table.get("format")) is int else 1
+    is_large = number_of_format in (2, 3)
     most = MOST_LARGE if is_large else MOST_CELLS
-    for fault, numbers in (("Size", [it["size"] for it in table["space"]]), ("Unit", [it["unit"] for it in table["map"]])):
+    maps = table.get("map", []) if number_of_format == 3 else table["map"]
+    for fault, numbers in (("Size", [it["size"] for it in table["space"]]), ("Unit", [it["unit"] for it in maps])):
         if not all(1 <= it <= most for it in numbers):
             raise Fault(f"Hier.Layout.{fault} {number}")
     if not is_large and sum(it["size"] for it in table["space"]) > most:
@@ -107,9 +115,13 @@ def tree_of(text: str, number: int = 1) -> Tree:
     names = [it["name"] for it in table["affinity"]]
     parents = [names.index(it["parent"]) if "parent" in it else None for it in table["affinity"]]
     sizes = {it["name"]: it["size"] for it in table["space"]}
-    units = {it["space"]: it["unit"] for it in table["map"]}
-    owners = {it["space"]: [names.index(owner) for owner in it["to"]] for it in table["map"]}
-    return Tree(table["model"], names, parents, sizes, units, owners)
+    units = {it["space"]: it["unit"] for it in maps}
+    owners = {it["space"]: [names.index(owner) for owner in it["to"]] for it in maps}
+    locks = {it["name"]: it["locks"] for it in table["space"] if "locks" in it and number_of_format == 3}
+    for it in locks:
+        units.setdefault(it, 1)
+        owners.setdefault(it, [parents.index(None)])
+    return Tree(table["model"], names, parents, sizes, units, owners, locks)
 
 
 def is_number(word: str, most: int | None = None, least: int = 0) -> bool:

@@ -6,7 +6,7 @@ import re
 from dataclasses import dataclass
 from itertools import combinations
 
-from clients import Plan, World
+from worlds import Plan, World
 
 
 @dataclass(slots=True)
@@ -59,7 +59,7 @@ def faults_of_order(world: World, rows: list[Row], workers: int) -> list[str]:
     for m, (it, row) in enumerate(zip(world.messages, rows, strict=True)):
         if row.finish - row.start != it.cost:
             faults.append(f"message {m + 1} costs {it.cost}, and runs from {row.start} to {row.finish}")
-        if row.affinity != world.tree.names[world.affinities[m]]:
+        if row.affinity != world.name(m):
             faults.append(f"message {m + 1} runs in {row.affinity}")
         if not 1 <= row.worker <= workers:
             faults.append(f"message {m + 1} runs on worker {row.worker} of {workers}")

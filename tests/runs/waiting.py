@@ -5,11 +5,12 @@ import random
 from collections.abc import Callable
 from dataclasses import dataclass, field
 
-from clients import World, trace_of, tree_of
 from common import Count
 from judging import Row, faults_of_order, most_told
 from making import pieces
 from rooms import leaves, trace_text
+from traces import trace_of, tree_of
+from worlds import World
 
 # How many seconds a run may take longer than its messages wait, on a machine that has other work.
 PATIENCE = 1.2
@@ -187,7 +188,7 @@ def ran_by(world: World, rule: Rule) -> list[Row]:
         found = [Awaited(rows[other].finish, gap) for other, gap in it.after.items()]
         found += [Awaited(rows[other].finish, gap, True) for other, gap in world.own[m].items()]
         start = max(world.floor(m), rule(found))
-        rows.append(Row(start, start + it.cost, world.tree.names[world.affinities[m]], m + 1))
+        rows.append(Row(start, start + it.cost, world.name(m), m + 1))
     return rows
 
 
