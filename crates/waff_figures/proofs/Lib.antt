@@ -18,7 +18,6 @@ mod NameLaws
 pub mod PartLemmas
 pub mod Falling
 mod PartRows
-mod Contentions
 mod LocksWaited
 mod WaitLemmas
 mod WaitRowLemmas

@@ -4,14 +4,13 @@ use Rattle.std.proofs.lemmas.Bool.{cases_lt}
 use Rattle.std.proofs.lemmas.List.{get_or_append_left, length_push}
 use Rattle.std.proofs.Math.Seq.{get_or-append_seam}
 use Rattle.waff_model.specs.Tree.{Node}
-use Rattle.waff_assign.specs.Held.{AreUnlocked, Contend, Held}
+use Rattle.waff_assign.specs.Held.{AreUnlocked, Contend, ExcludeByAffinities, Held, IsFirstOfContended}
 use Rattle.waff_assign.specs.Order.{held_of}
 use Rattle.waff_assign.specs.declared.held.LockUse.{LockUse}
 use Rattle.waff_assign.proofs.Holding.{uses_none}
 use Rattle.waff_plan.specs.Work.{IsAmongFirst}
-use Rattle.waff_figures.specs.Contention.{ExcludeByAffinities, IsFirstOfContended}
 use Rattle.waff_figures.specs.WaitLocks.{AreBy, IsBy, IsLockBetween}
-use Rattle.waff_figures.proofs.Contentions.{first_is_one}
+use Rattle.waff_assign.proofs.Contentions.{first_is_one}
 
 between_is_one : (tree : List Node) (one other : Held) (by also : Option ℕ) → IsLockBetween tree one other by → IsLockBetween tree one other also → by ≡ also
 between_is_one tree one other None None p q = refl

@@ -12,7 +12,6 @@ pub mod Groups
 pub mod ByName
 pub mod Laws
 pub mod PartLaws
-pub mod Contention
 pub mod WaitLocks
 pub mod Waits
 pub mod WaitRows

@@ -3,9 +3,8 @@ use Rattle.std.specs.Prelude.{◌≡◌, ℕ, ◌-◌, ◌≤◌, ◌⊎◌, Lis
 use Rattle.std.specs.Prelude.{slice_index_or}
 use Rattle.waff_model.specs.Tree.{Node}
 use Rattle.waff_model.specs.declared.cell.Cell.{Cell}
-use Rattle.waff_assign.specs.Held.{Held}
+use Rattle.waff_assign.specs.Held.{ExcludeByAffinities, Held, IsFirstOfContended}
 use Rattle.waff_assign.specs.Order.{held_of}
-use Rattle.waff_figures.specs.Contention.{ExcludeByAffinities, IsFirstOfContended}
 
 -- the lock by which two messages exclude each other: none where they do so by their affinities, or contend for none;
 -- else the first for which they contend

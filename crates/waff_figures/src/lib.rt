@@ -32,7 +32,6 @@ mod below;
 mod by_affinity;
 mod by_name;
 mod cell_text;
-mod contention;
 mod fields;
 pub mod figures;
 mod grouped;

@@ -7,9 +7,8 @@ ghost use Rattle.waff_model.specs.Layout.{has_locks};
 ghost use Rattle.waff_plan.specs.Work.{IsAmongFirst};
 ghost use Rattle.waff_figures.specs.WaitLocks.{AreBy, IsBy, IsLockBetween, cell_by, space_by};
 
-use crate::contention::{contended_lock, exclude_by_affinities};
 use std::alloc::{AllocError, Global};
-use waff_assign::{Assigned, Case};
+use waff_assign::{Assigned, Case, contended_lock, exclude_by_affinities};
 use waff_model::{Cell, Layout, Tree};
 
 /// The cells that number the locks which messages use, and the spaces that these cells are of.

@@ -33,7 +33,7 @@ use Rattle.waff_figures.proofs.FigureLaws.{figures_moved}
 use Rattle.waff_figures.proofs.WaitKinds.{kinds_are}
 use Rattle.waff_figures.proofs.WaitUnique.{alike_laws, rows_are_one}
 use Rattle.waff_tool.specs.WaitsText.{IsPlanFor, TellsWaits, WaitsAreSwept}
-use Rattle.waff_tool.proofs.LockLists.{same_locks}
+use Rattle.waff_assign.proofs.Uniqueness.{same_locks}
 use Rattle.waff_tool.proofs.FigureUniqueness.{told_swept}
 use Rattle.waff_tool.proofs.CertificateLemmas.{busy_served}
 use Rattle.waff_tool.proofs.PlanUniqueness.{IsSound, count_in, least_in_one, rule_in_one}

@@ -24,7 +24,7 @@ use Rattle.waff_figures.proofs.WorstLaws.{first_is_greatest, worst_lines_are_one
 use Rattle.waff_tool.specs.WaitsText.{IsPlanFor}
 use Rattle.waff_tool.specs.WorstText.{TellsWorst, WorstIsSwept}
 use Rattle.waff_tool.proofs.FigureUniqueness.{told_swept}
-use Rattle.waff_tool.proofs.LockLists.{same_locks}
+use Rattle.waff_assign.proofs.Uniqueness.{same_locks}
 use Rattle.waff_tool.proofs.PlanUniqueness.{IsSound, count_in}
 use Rattle.waff_tool.proofs.TextUniqueness.{is_sound}
 use Rattle.waff_tool.proofs.WaitsTexts.{line_of_plan, same_plan}

@@ -1,9 +1,0 @@
-use Rattle.std.proofs.Common.{◌+◌, ◌-◌, length}
-use Rattle.waff_figures.proofs.Contentions.{AreAhead}
-use Rattle.waff_figures.proofs.contention.first_contended.Given as goal
-
-abbrev pub invariant-loop-at : goal.invariant-loop-at
-invariant-loop-at l = AreAhead l.uses l.others l.at l.other
-
-abbrev pub decreases-loop-at : goal.decreases-loop-at
-decreases-loop-at l = (length l.uses - l.at) + (length l.others - l.other)
