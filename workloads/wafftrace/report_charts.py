@@ -74,7 +74,10 @@ def stacks_of(trees: list[Under], workers: list[int]) -> list[Stack]:
 def map_of(under: Under) -> tuple[list[str], dict[tuple[str, str], int], int]:
     """The affinities of the map of waits in the order of the tree, those with most waits where there are many, and `-` for workers;
     the ticks of each pair; and how many ticks of others are left out."""
-    ticks = {(row["affinity"], row["for"]): int(row["ticks"]) for row in under.waits.rows()}
+    ticks: dict[tuple[str, str], int] = {}
+    for row in under.waits.rows():
+        pair = (row["affinity"], row["for"])
+        ticks[pair] = ticks.get(pair, 0) + int(row["ticks"])
     sums: dict[str, int] = {}
     for (one, other), count in ticks.items():
         for it in {one, other} - {"-"}:

@@ -83,6 +83,16 @@ def folded(rows: list[Row], columns: dict[str, str], name: str, what: str, words
     return f"<details><summary>{what}</summary>{table(rows, columns, name, '', words)}</details>" if rows else ""
 
 
+def waited_for(row: Row) -> str:
+    """The affinity that is waited for, where it is not a worker: messages that wait by a lock may have none."""
+    return "a worker" if row["for"] == "-" and row.get("by", "-") == "-" else row["for"]
+
+
+def by_lock(row: Row) -> str:
+    """By the lock of which cell a message waits, where it does so."""
+    return f", by {row['by']}" if row.get("by", "-") != "-" else ""
+
+
 def made_by(*answers: Answer | str) -> str:
     lines = dict.fromkeys(it if isinstance(it, str) else it.command for it in answers)
     return "<pre>" + "\n".join(f"$ {escaped(it)}" for it in lines) + "</pre>"
@@ -279,13 +289,14 @@ class Page:
 
     def waits(self) -> None:
         parts = []
-        columns = {"affinity": "waits", "for": "for", "messages": "messages", "ticks": "ticks", "longest": "longest"}
-        words = ("affinity", "for")
+        words = ("affinity", "for", "by")
         for number, under in enumerate(self.report.trees):
             order, shown, left = map_of(under)
             lines = under.waits.rows()
+            columns = {"affinity": "waits", "for": "for", **({"by": "by"} if any("by" in row for row in lines) else {}),
+                       "messages": "messages", "ticks": "ticks", "longest": "longest"}
             more = [row for row in lines[MOST_ROWS:] if (row["affinity"], row["for"]) in shown]
-            rows, rest = ([{**row, "for": "a worker" if row["for"] == "-" else row["for"]} for row in it] for it in (lines[:MOST_ROWS], more))
+            rows, rest = ([{**row, "for": waited_for(row)} for row in it] for it in (lines[:MOST_ROWS], more))
             note = f" Waits of other affinities, {left:,} ticks in all, are left out." if left else ""
             left_out = f"The longest waits, {MOST_ROWS} of {len(lines):,} pairs" if len(lines) > MOST_ROWS else "The longest waits first"
             drawn = self.chart(
@@ -352,7 +363,7 @@ class Page:
                    "start": "start", "finish": "finish", "latency": "latency", "waited": "waited for"}
         for number, under in enumerate(self.report.trees):
             rows = [
-                {**row, "waited": f"{row['for']} ({row['forname']} in {row['foraffinity']})" if row["for"] != "-" else "-"}
+                {**row, "waited": f"{row['for']} ({row['forname']} in {row['foraffinity']}{by_lock(row)})" if row["for"] != "-" else "-"}
                 for row in under.worst.rows()
             ]
             words = ("name", "affinity", "client", "waited")

@@ -4,7 +4,7 @@ use Rattle.std.proofs.lemmas.Bool.{cases_Bool}
 use Rattle.std.proofs.lemmas.Option.{same_Some}
 use Rattle.waff_model.specs.Tree.{Node, AtOrAbove, Excludes, IsTree}
 use Rattle.waff_model.proofs.TreeLemmas.{reflexive}
-use Rattle.waff_assign.specs.Held.{Held, nothing, UsesLock, UsesAlone, UsesShared, AffinitiesExclude, IsInRoot, Contend, ExcludeEachOther, IsHeldWithin, AreKnown, AreUnlocked}
+use Rattle.waff_assign.specs.Held.{Held, nothing, UsesLock, UsesAlone, UsesShared, AffinitiesExclude, IsInRoot, Contend, ExcludeByAffinities, ExcludeEachOther, IsHeldWithin, AreKnown, AreUnlocked}
 use Rattle.waff_assign.specs.Order.{held_of, affinity_of}
 use Rattle.waff_assign.proofs.Climbs.{root_above}
 
@@ -119,10 +119,8 @@ pub affinity_unlocked : (tree : List Node) (assigned : List Held) (n : ℕ) → 
 affinity_unlocked tree assigned n known unlocked from to =
     affinity_without_uses (length tree) (held_of assigned n) (held_known tree assigned n known from to) (uses_none assigned n unlocked from to)
 
--- two that exclude each other neither by their affinities nor by the root do so by a lock
-pub exclude_by_lock : (tree : List Node) (one other : Held) → (IsInRoot one → ⊥) → (IsInRoot other → ⊥) → (AffinitiesExclude tree one other → ⊥)
-    → ExcludeEachOther tree one other → (lock : ℕ) × Contend one other lock
-exclude_by_lock tree one other low low_other apart (inl affinities) = absurd (apart affinities)
-exclude_by_lock tree one other low low_other apart (inr (inl (inl root))) = absurd (low root)
-exclude_by_lock tree one other low low_other apart (inr (inl (inr root))) = absurd (low_other root)
-exclude_by_lock tree one other low low_other apart (inr (inr contend)) = contend
+-- two that exclude each other do so by a lock where they don't by their affinities
+pub by_lock : (tree : List Node) (one other : Held) → (ExcludeByAffinities tree one other → ⊥) → ExcludeEachOther tree one other → (lock : ℕ) × Contend one other lock
+by_lock tree one other apart (inl affinities) = absurd (apart (inl affinities))
+by_lock tree one other apart (inr (inl root)) = absurd (apart (inr root))
+by_lock tree one other apart (inr (inr contend)) = contend

@@ -6,7 +6,7 @@ mod Adding
 mod Numbering
 mod UseLists
 mod Lowering
-mod Contentions
+pub mod Contentions
 mod Coverings
 pub mod Assignments
 pub mod CellOrder

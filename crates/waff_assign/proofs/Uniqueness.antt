@@ -38,7 +38,7 @@ same_affinity layout cells (Some a) None tree (some, lowest) all = absurd (some.
 same_affinity layout cells (Some a) (Some b) tree (some, first) (more, second) = ap Some (same_lowest layout _ a b tree first second)
 
 -- two lists of the locks are equal
-same_locks : (layout : Hierarchy) (messages : List Message) (one other : List Cell) → ListsLocks layout messages one → ListsLocks layout messages other → one ≡ other
+pub same_locks : (layout : Hierarchy) (messages : List Message) (one other : List Cell) → ListsLocks layout messages one → ListsLocks layout messages other → one ≡ other
 same_locks layout messages one other first second =
     let R = λ (a : Cell) (b : Cell). cell_cmp a b ≡ Less in
     let strict : (a b : Cell) → cell_cmp a b ≡ Less → cell_cmp b a ≡ Less → ⊥ = λ a b less more. let both = cell_cmp_total.antisymm a b in absurd (cc) in

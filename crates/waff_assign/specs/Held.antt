@@ -1,5 +1,5 @@
 -- What a message holds from its start to its finish, and which of two messages exclude each other by it.
-use Rattle.std.specs.Prelude.{◌≡◌, ℕ, ◌<◌, ◌⊎◌, List, [], length, All, Contains, Option, Some, None}
+use Rattle.std.specs.Prelude.{◌≡◌, ℕ, ◌<◌, ◌≤◌, ◌⊎◌, List, [], length, All, Contains, Option, Some, None}
 use Rattle.std.specs.Prelude.{◌+◌, false, if◌then◌else◌, is_some, slice_get, sum_by, true}
 use Rattle.waff_model.specs.Tree.{Node, Excludes}
 use Rattle.waff_assign.specs.declared.held.LockUse.{LockUse}
@@ -57,6 +57,17 @@ IsInRoot held = held.affinity ≡ Some 0
 abbrev pub Contend : Held → Held → ℕ → Type 0
 Contend one other lock =
     (UsesAlone one lock × UsesLock other lock) ⊎ (UsesLock one lock × UsesAlone other lock)
+
+-- the first of the locks that both use, and one of them alone; none where there is none
+abbrev pub IsFirstOfContended : Held → Held → Option ℕ → Type 0
+IsFirstOfContended one other None = (lock : ℕ) → ¬ Contend one other lock
+IsFirstOfContended one other (Some first) =
+    Contend one other first × ((lock : ℕ) → Contend one other lock → first ≤ lock)
+
+-- two messages exclude each other without their locks: by their affinities, or since one of them runs in the root
+abbrev pub ExcludeByAffinities : List Node → Held → Held → Type 0
+ExcludeByAffinities tree one other =
+    AffinitiesExclude tree one other ⊎ (IsInRoot one ⊎ IsInRoot other)
 
 -- two messages exclude each other: by their affinities; or since one of them runs in the root; or both use one lock,
 -- and one of them alone

@@ -1,9 +1,10 @@
--- One thing each: the lowest affinity of a footprint, and the assignment of a trace.
+-- One thing each: the lowest affinity of a footprint, the assignment of a trace, and the first lock that two contend for.
 use Rattle.std.specs.Prelude.{◌≡◌, ℕ, List, Contains}
+use Rattle.waff_model.specs.Unique.{AtMostOne}
 use Rattle.waff_model.specs.Layout.{Hierarchy}
 use Rattle.waff_model.specs.declared.cell.Cell.{Cell}
 use Rattle.waff_model.specs.declared.message.Message.{Message}
-use Rattle.waff_assign.specs.Held.{Held}
+use Rattle.waff_assign.specs.Held.{Held, IsFirstOfContended}
 use Rattle.waff_assign.specs.Lowest.{IsLowest, IsAssignment}
 
 -- two lowest affinities that cover the same cells are equal
@@ -17,3 +18,7 @@ AssignmentIsOne layout messages =
     (assigned other : List Held) → IsAssignment layout messages assigned
     → IsAssignment layout messages other
     → assigned ≡ other
+
+-- two first locks for which the same two contend are equal, and where the one is there the other is
+abbrev pub FirstOfContendedIsOne : Type 0
+FirstOfContendedIsOne = (one other : Held) → AtMostOne (IsFirstOfContended one other)

@@ -41,4 +41,4 @@ pub use covering::lowest;
 pub use footprints::footprint;
 pub use held::LockUse;
 pub use locks::lock_cells;
-pub use order::{exclude_each_other, is_ordered, is_root};
+pub use order::{contended_lock, exclude_by_affinities, exclude_each_other, is_ordered, is_root};

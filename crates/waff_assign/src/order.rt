@@ -3,8 +3,8 @@
 ghost use Rattle.std.specs.Prelude.{◌↔◌, ◌≡◌, ◌<◌, ℕ, length, option_map, Some, IfSome, IsTrue};
 ghost use Rattle.waff_model.specs.Numbers.{IsAmongFirst};
 ghost use Rattle.waff_model.specs.Tree.{Excludes};
-ghost use Rattle.waff_assign.specs.Held.{AreKnown, Contend, ExcludeEachOther, IsRising};
-ghost use Rattle.waff_assign.specs.Held.{UsesContend, using};
+ghost use Rattle.waff_assign.specs.Held.{AreKnown, ExcludeByAffinities, ExcludeEachOther};
+ghost use Rattle.waff_assign.specs.Held.{IsFirstOfContended, IsRising, UsesContend, using};
 ghost use Rattle.waff_assign.specs.Order.{held_of, IsOrdered};
 
 use crate::Assigned;
@@ -30,11 +30,32 @@ pub fn exclude_each_other(tree: &Tree, assigned: &Assigned, i: u32, j: u32) -> b
     ensures { IsTrue result
         ↔ ExcludeEachOther tree.now (held_of assigned.now i) (held_of assigned.now j) }
 {
+    exclude_by_affinities(tree, assigned, i, j) || contended_lock(assigned, i, j).is_some()
+}
+
+/// Whether messages `i` and `j`, from 1, exclude each other whatever locks they use: the affinity of one is at or
+/// above that of the other, or one of them runs in the root.
+pub fn exclude_by_affinities(tree: &Tree, assigned: &Assigned, i: u32, j: u32) -> bool
+    requires first { IsAmongFirst (length assigned.now) i }
+    requires second { IsAmongFirst (length assigned.now) j }
+    requires known { AreKnown tree.now assigned.now }
+    ensures { IsTrue result
+        ↔ ExcludeByAffinities tree.now (held_of assigned.now i) (held_of assigned.now j) }
+{
     let (one, other) = (assigned.affinity(i), assigned.affinity(j));
-    if is_root(one) || is_root(other) || affinities_exclude(tree, one, other) {
-        return true;
-    }
-    contend(assigned.uses(i), assigned.uses(j))
+    is_root(one) || is_root(other) || affinities_exclude(tree, one, other)
+}
+
+/// The first lock that messages `i` and `j`, from 1, both use, and one of them alone: the locks of each are listed by
+/// their numbers.
+pub fn contended_lock(assigned: &Assigned, i: u32, j: u32) -> Option<u32>
+    requires first { IsAmongFirst (length assigned.now) i }
+    requires second { IsAmongFirst (length assigned.now) j }
+    requires rising { IsRising (held_of assigned.now i).uses }
+    requires others { IsRising (held_of assigned.now j).uses }
+    ensures { IsFirstOfContended (held_of assigned.now i) (held_of assigned.now j) result }
+{
+    first_contended(assigned.uses(i), assigned.uses(j))
 }
 
 /// Whether there are both affinities, and one of them is at or above the other.
@@ -60,17 +81,17 @@ pub fn is_root(affinity: Option<AffinityId>) -> bool
     }
 }
 
-/// Whether both use one lock, and one of them alone: both lists are by the numbers of their locks.
-fn contend(uses: &[LockUse], others: &[LockUse]) -> bool
+/// The first lock that is in both lists, and in one of them alone: both are by the numbers of their locks.
+fn first_contended(uses: &[LockUse], others: &[LockUse]) -> Option<u32>
     requires rising { IsRising uses.now }
     requires others { IsRising others.now }
-    ensures { IsTrue result ↔ ((lock : ℕ) × Contend (using uses.now) (using others.now) lock) }
+    ensures { IsFirstOfContended (using uses.now) (using others.now) result }
 {
     let (mut at, mut other) = (0, 0);
     while at < uses.len() && other < others.len() {
         let (one, two) = (uses[at], others[other]);
         if uses_contend(one, two) {
-            return true;
+            return Some(one.lock);
         }
         if one.lock <= two.lock {
             at += 1;
@@ -78,7 +99,7 @@ fn contend(uses: &[LockUse], others: &[LockUse]) -> bool
             other += 1;
         }
     }
-    false
+    None
 }
 
 /// Whether both are uses of one lock, and one of them alone.

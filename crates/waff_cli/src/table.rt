@@ -401,6 +401,8 @@ A line for each pair of affinities of which one waits for the other, in the plan
 without a limit on workers, or in that for K workers:
   affinity  that of the messages that wait
   for       that of the messages they wait for; - for a worker
+  by        under locks alone: the space of the lock for which they wait; - for a
+            worker and for affinities that exclude each other
   messages  how many wait so
   ticks     how long they wait in all
   longest   how long one of them waits
@@ -409,14 +411,15 @@ With --names a line for each two names and their affinities:
   affinity     theirs
   forname      that of the messages they wait for; - for a worker
   foraffinity  that of those; - for a worker
-  messages, ticks, longest  as above, of these messages
+  by, messages, ticks, longest  as above, of these messages
 With --worst a line for each of N messages, that of the greatest latency first:
   message, name, affinity, client  its own; - for no client
   issue    the tick at which it is issued, without clients its release
   ready    the tick from which it waits for a worker alone
   start, finish, latency  of the plan; the latency is the finish - the issue
   for, forname, foraffinity  the message for which it waits till it is ready; -
-           for none"
+           for none
+  by       under locks alone: the cell whose lock it waits for; - as above"
     ),
 };
 

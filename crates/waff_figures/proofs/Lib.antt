@@ -18,9 +18,10 @@ mod NameLaws
 pub mod PartLemmas
 pub mod Falling
 mod PartRows
+mod LocksWaited
 mod WaitLemmas
 mod WaitRowLemmas
-mod WaitKinds
+pub mod WaitKinds
 mod WaitOrder
 mod WaitGroups
 mod WaitSums

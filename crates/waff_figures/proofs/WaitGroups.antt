@@ -16,6 +16,8 @@ use Rattle.waff_plan.specs.Work.{IsAmongFirst}
 use Rattle.waff_figures.specs.ByAffinity.{affinity_number}
 use Rattle.waff_figures.specs.ByName.{is_named}
 use Rattle.waff_figures.specs.Tally.{is_in}
+use Rattle.waff_model.specs.declared.cell.Cell.{Cell}
+use Rattle.waff_figures.specs.WaitLocks.{space_by}
 use Rattle.waff_figures.specs.Waits.{IsWaitAmong}
 use Rattle.waff_figures.specs.Groups.{firsts_by}
 use Rattle.waff_figures.specs.WaitRows.{AreRows, group_of, row_of, row_over, rows_by, same_group, same_kind}
@@ -50,31 +52,33 @@ module _ (one other : ℕ → ℕ → Bool) (n : ℕ) (agree : (i j : ℕ) → I
   same_causes (Some i) None first second = refl
   same_causes (Some i) (Some j) first second = agree i j first second
 
-  kinds_agree : (w v : Wait) → IsWaitAmong n w → IsWaitAmong n v → same_kind one w v ≡ same_kind other w v
-  kinds_agree w v first second =
-      ap (λ b. b && option_eq one w.on v.on) (agree w.message v.message first.message second.message)
-      ∙ ap (λ b. other w.message v.message && b) (same_causes w.on v.on first.on second.on)
+  module _ (cells : List Cell) (ws : List Wait) (among : All (IsWaitAmong n) ws) where
+    kinds_agree : (w v : Wait) → IsWaitAmong n w → IsWaitAmong n v → same_kind one cells w v ≡ same_kind other cells w v
+    kinds_agree w v first second =
+        ap (λ b. b && (option_eq one w.on v.on && option_eq (λ s t. s == t) (space_by cells w.by) (space_by cells v.by)))
+        (agree w.message v.message first.message second.message)
+        ∙ ap (λ b. other w.message v.message && (b && option_eq (λ s t. s == t) (space_by cells w.by) (space_by cells v.by)))
+        (same_causes w.on v.on first.on second.on)
 
-  module _ (ws : List Wait) (among : All (IsWaitAmong n) ws) where
     -- the first waits of all kinds are among these
-    firsts_among : All (IsWaitAmong n) (firsts_by (same_kind one) ws)
-    firsts_among = firsts_all (same_kind one) (IsWaitAmong n) ws among
+    firsts_among : All (IsWaitAmong n) (firsts_by (same_kind one cells) ws)
+    firsts_among = firsts_all (same_kind one cells) (IsWaitAmong n) ws among
 
-    pub rows_among : (rows : List Row) → AreRows one ws rows → All (λ (row : Row). IsWaitAmong n row.first) rows
+    pub rows_among : (rows : List Row) → AreRows (same_kind one cells) ws rows → All (λ (row : Row). IsWaitAmong n row.first) rows
     rows_among rows are =
-        All-permutation (λ (row : Row). IsWaitAmong n row.first) (rows_by one ws) rows are.are
-        (All-map (λ (row : Row). IsWaitAmong n row.first) (row_of one ws) (firsts_by (same_kind one) ws) firsts_among)
+        All-permutation (λ (row : Row). IsWaitAmong n row.first) (rows_by (same_kind one cells) ws) rows are.are
+        (All-map (λ (row : Row). IsWaitAmong n row.first) (row_of (same_kind one cells) ws) (firsts_by (same_kind one cells) ws) firsts_among)
 
-    rows_by_same : rows_by one ws ≡ rows_by other ws
+    rows_by_same : rows_by (same_kind one cells) ws ≡ rows_by (same_kind other cells) ws
     rows_by_same =
-        let firsts = firsts_by (same_kind one) ws in
-        map_same (row_of one ws) (row_of other ws) firsts (λ k d low.
+        let firsts = firsts_by (same_kind one cells) ws in
+        map_same (row_of (same_kind one cells) ws) (row_of (same_kind other cells) ws) firsts (λ k d low.
         let first = get_or firsts k d in
-        ap (λ l. row_over l first) (filter_same (same_kind one first) (same_kind other first) ws
+        ap (λ l. row_over l first) (filter_same (same_kind one cells first) (same_kind other cells first) ws
         (λ i e inside. kinds_agree first (get_or ws i e) (firsts_among k d low) (among i e inside))))
-        ∙ ap (map (row_of other ws)) (firsts_same (same_kind one) (same_kind other) (IsWaitAmong n) kinds_agree ws among)
+        ∙ ap (map (row_of (same_kind other cells) ws)) (firsts_same (same_kind one cells) (same_kind other cells) (IsWaitAmong n) kinds_agree ws among)
 
-    pub rows_same : (rows : List Row) → AreRows one ws rows → AreRows other ws rows
+    pub rows_same : (rows : List Row) → AreRows (same_kind one cells) ws rows → AreRows (same_kind other cells) ws rows
     rows_same rows are = record { are = subst (λ l. IsPermutation l rows) rows_by_same are.are; order = are.order }
 
 -- messages that have places by their names have one place exactly if they have one name

@@ -27,6 +27,7 @@ use Rattle.waff_figures.specs.declared.grouping.Grouping.TheVariants.{Affinity, 
 use Rattle.waff_figures.specs.declared.wait_rows.Row.{Row}
 use Rattle.waff_figures.specs.declared.waits.Wait.{Wait}
 use Rattle.waff_figures.proofs.Lists.{bytes_laws, same_order}
+use Rattle.waff_figures.proofs.LocksWaited.{by_is_one}
 use Rattle.waff_figures.proofs.WaitLemmas.{first_known, upto_more, waits_at, waits_upto}
 
 -- plans with the same starts have the same links, and the same waits
@@ -68,31 +69,43 @@ module _ (before : ℕ → ℕ → Type 0) (work : Work) (known : (i m : ℕ) �
   same_ready m None is = same_issued m
   same_ready m (Some i) is = same_finish i m is.0.one
 
-  same_waits_in : (m : ℕ) (a b : Option ℕ) → IsNumber work m → IsWaitedFor before work start m a → IsWaitedFor before work other m b
-      → waits_in work start m a ≡ waits_in work other m b
-  same_waits_in m a b number first second =
-      let waits : ℕ → ℕ → ℕ → List Wait = λ issue ready s. wait_of m a (ready - issue) ++ wait_of m None (s - ready) in
+  same_waits_in : (m : ℕ) (a b by also : Option ℕ) → IsNumber work m → IsWaitedFor before work start m a → IsWaitedFor before work other m b → by ≡ also
+      → waits_in work start m a by ≡ waits_in work other m b also
+  same_waits_in m a b by also number first second locks =
+      let waits : ℕ → ℕ → ℕ → List Wait = λ issue ready s. wait_of m a by (ready - issue) ++ wait_of m None None (s - ready) in
       ap (λ i. waits i (ready_of work start m a) (start m)) (same_issued m)
       ∙ ap (λ r. waits (issue_of work other m) r (start m)) (same_ready m a first)
       ∙ ap (waits (issue_of work other m) (ready_of work other m a)) (same m number)
-      ∙ ap (λ link. waits_in work other m link) (link_is_one m a b first second)
+      ∙ ap (λ link. waits_in work other m link by) (link_is_one m a b first second) ∙ ap (waits_in work other m b) locks
 
-  same_upto : (links other_links : List (Option ℕ)) → AreWaitedFor before work start work.count links → AreWaitedFor before work other work.count other_links
-      → (n : ℕ) → n ≤ work.count → waits_upto work start links n ≡ waits_upto work other other_links n
-  same_upto links other_links are other_are zero within = refl
-  same_upto links other_links are other_are (suc n) within =
+  same_upto : (links other_links locks other_locks : List (Option ℕ)) → AreWaitedFor before work start work.count links
+      → AreWaitedFor before work other work.count other_links
+      → ((m : ℕ) → IsNumber work m → get_or locks (m - 1) None ≡ get_or other_locks (m - 1) None)
+      → (n : ℕ) → n ≤ work.count → waits_upto work start links locks n ≡ waits_upto work other other_links other_locks n
+  same_upto links other_links locks other_locks are other_are by zero within = refl
+  same_upto links other_links locks other_locks are other_are by (suc n) within =
       let next : n + 1 ≡ suc n = omega arith in
       let from : 1 ≤ suc n = omega arith in
-      let this = same_waits_in (suc n) (get_or links (suc n - 1) None) (get_or other_links (suc n - 1) None) (record { from = from; to = within })
-      (are (suc n) from within) (other_are (suc n) from within) in
-      upto_more work start links n (suc n) next
-      ∙ ap (λ ws. ws ++ waits_at work start links (suc n)) (same_upto links other_links are other_are n (omega (arith, within)))
-      ∙ ap (λ ws. waits_upto work other other_links n ++ ws) this
-      ∙ sym (upto_more work other other_links n (suc n) next)
+      let this = same_waits_in (suc n) (get_or links (suc n - 1) None) (get_or other_links (suc n - 1) None) (get_or locks (suc n - 1) None) (get_or other_locks (suc n - 1) None)
+      (record { from = from; to = within }) (are (suc n) from within) (other_are (suc n) from within) (by (suc n) (record { from = from; to = within })) in
+      upto_more work start links locks n (suc n) next
+      ∙ ap (λ ws. ws ++ waits_at work start links locks (suc n)) (same_upto links other_links locks other_locks are other_are by n (omega (arith, within)))
+      ∙ ap (λ ws. waits_upto work other other_links other_locks n ++ ws) this
+      ∙ sym (upto_more work other other_links other_locks n (suc n) next)
 
-  pub same_waits : (waits other_waits : List Wait) → AreWaits before work start waits → AreWaits before work other other_waits → waits ≡ other_waits
-  same_waits waits other_waits are other_are =
-      are.waits_are ∙ same_upto are.links other_are.links are.are_links other_are.are_links work.count (omega arith) ∙ sym other_are.waits_are
+  pub same_waits : (tree : List Node) (assigned : List Held) → length assigned ≡ work.count → (waits other_waits : List Wait)
+      → AreWaits tree assigned before work start waits → AreWaits tree assigned before work other other_waits → waits ≡ other_waits
+  same_waits tree assigned count waits other_waits are other_are =
+      are.waits_are
+      ∙ same_upto are.links other_are.links are.locks other_are.locks are.are_links other_are.are_links
+      (λ m number.
+      let from : 1 ≤ m = number.from in
+      let to : m ≤ work.count = number.to in
+      by_is_one tree assigned m (get_or are.links (m - 1) None) (get_or other_are.links (m - 1) None) (get_or are.locks (m - 1) None) (get_or other_are.locks (m - 1) None)
+      (link_is_one m (get_or are.links (m - 1) None) (get_or other_are.links (m - 1) None) (are.are_links m from to) (other_are.are_links m from to))
+      (are.are_locks m from (omega (arith, to, count))) (other_are.are_locks m from (omega (arith, to, count))))
+      work.count (omega arith)
+      ∙ sym other_are.waits_are
 
 not_some : (o : Option ℕ) → IsSome o → o ≡ None → ⊥
 not_some o some none = false≢true (sym (ap is_some none) ∙ some)
@@ -111,7 +124,7 @@ one_stands_before r s (inr same) (inl more) = omega (arith, more, same.0)
 one_stands_before r s (inr same) (inr other) = one_comes_first r.first s.first same.1 other.1
 
 -- the rows are the same, in the same order
-same_rows : (alike : ℕ → ℕ → Bool) (waits : List Wait) → AtMostOne (AreRows alike waits)
+same_rows : (alike : Wait → Wait → Bool) (waits : List Wait) → AtMostOne (AreRows alike waits)
 same_rows alike waits rows other are other_are =
     let into : (one another : List Row) → AreRows alike waits one → AreRows alike waits another → (row : Row) → Contains one row → Contains another row
     = λ one another p q row has.
@@ -132,10 +145,13 @@ module _ (before again : Relation) (work : Work) (start : ℕ → ℕ) (into : (
     is.1,
   )
 
-  waits_again : (waits : List Wait) → AreWaits before work start waits → AreWaits again work start waits
-  waits_again waits are = record {
+  waits_again : (tree : List Node) (assigned : List Held) (waits : List Wait) → AreWaits tree assigned before work start waits
+      → AreWaits tree assigned again work start waits
+  waits_again tree assigned waits are = record {
     links = are.links;
+    locks = are.locks;
     are_links = λ m from to. waited_again m (get_or are.links (m - 1) None) (are.are_links m from to);
+    are_locks = are.are_locks;
     waits_are = are.waits_are;
   }
 
@@ -159,10 +175,10 @@ rows_are_one version tree assigned work alike start other waits other_waits rows
     let before = started_before version tree assigned start in
     let back : AreSame work other start = λ m number. sym (same m number) in
     let again = waits_again (started_before version tree assigned other) before work other (started_same version tree assigned work count other start back)
-    (started_same version tree assigned work count start other same) other_waits other_are in
+    (started_same version tree assigned work count start other same) tree assigned other_waits other_are in
     let known : (i m : ℕ) → before i m → IsNumber work i
     = λ i m pair. let is = first_known version tree assigned start i m pair in record { from = is.from; to = omega (arith, is.to, count) } in
-    let equal = same_waits before work known follows start other same waits other_waits are again in
+    let equal = same_waits before work known follows start other same tree assigned count waits other_waits are again in
     same_rows alike other_waits rows other_rows (subst (λ ws. AreRows alike ws rows) equal told) other_told
 
 -- messages are alike by an equivalence

@@ -12,6 +12,7 @@ pub mod Groups
 pub mod ByName
 pub mod Laws
 pub mod PartLaws
+pub mod WaitLocks
 pub mod Waits
 pub mod WaitRows
 pub mod WaitText

@@ -13,7 +13,7 @@ use Rattle.waff_plan.specs.Waited.{IsWaitedFor}
 use Rattle.waff_plan.specs.Work.{Work, IsAwaited, IsNumber, finish_of, holds_until, issue_of}
 use Rattle.waff_figures.specs.Figures.{waits_of}
 use Rattle.waff_figures.specs.Waits.{AreWaits, ready_of}
-use Rattle.waff_figures.specs.WaitRows.{AreRows, same_kind}
+use Rattle.waff_figures.specs.WaitRows.{AreRows}
 use Rattle.waff_figures.specs.declared.wait_rows.Row.{Row}
 use Rattle.waff_figures.specs.declared.waits.Wait.{Wait}
 
@@ -32,42 +32,42 @@ ReadyIsGreatest before work start =
     → IsReady before work start m (ready_of work start m waited_for)
 
 -- the waits of a message add up to the time from its issue to its start
-abbrev pub WaitsAddUp : Relation → Work → (ℕ → ℕ) → Type 0
-WaitsAddUp before work start =
+abbrev pub WaitsAddUp : List Node → List Held → Relation → Work → (ℕ → ℕ) → Type 0
+WaitsAddUp tree assigned before work start =
     (waits : List Wait) (m : ℕ)
-    → AreWaits before work start waits → Obeys before work start → IsNumber work m
+    → AreWaits tree assigned before work start waits → Obeys before work start → IsNumber work m
     → sum_by (λ wait. if wait.message == m then wait.ticks else 0) waits
     ≡ start m - issue_of work start m
 
 -- waiting for what a message awaits is no wait: a message that starts as soon as one that it awaits, by its
 -- client or by its list, holds it back no longer waits for nobody
-abbrev pub AwaitingIsNoWait : Relation → Work → (ℕ → ℕ) → Type 0
-AwaitingIsNoWait before work start =
-    (waits : List Wait) (i m : ℕ) → AreWaits before work start waits → Obeys before work start
+abbrev pub AwaitingIsNoWait : List Node → List Held → Relation → Work → (ℕ → ℕ) → Type 0
+AwaitingIsNoWait tree assigned before work start =
+    (waits : List Wait) (i m : ℕ) → AreWaits tree assigned before work start waits → Obeys before work start
     → IsNumber work m → IsAwaited (work.awaits m) i → start m ≡ holds_until work start m i
     → All (λ wait. wait.message ≢ m) waits
 
 -- each wait is told of in one row
 abbrev pub WaitsAreOnce : Type 0
 WaitsAreOnce =
-    (alike : ℕ → ℕ → Bool) (waits : List Wait) (rows : List Row) → IsEquivalence alike
+    (alike : Wait → Wait → Bool) (waits : List Wait) (rows : List Row) → IsEquivalence alike
     → AreRows alike waits rows
-    → All (λ wait. count_by (λ row. same_kind alike row.first wait) rows ≡ 1) waits
+    → All (λ wait. count_by (λ row. alike row.first wait) rows ≡ 1) waits
 
 -- the ticks of all rows add up to how long all messages wait
-abbrev pub TicksAddUp : Relation → Work → (ℕ → ℕ) → Type 0
-TicksAddUp before work start =
-    (alike : ℕ → ℕ → Bool) (waits : List Wait) (rows : List Row) → IsEquivalence alike
-    → AreWaits before work start waits → Obeys before work start → AreRows alike waits rows
+abbrev pub TicksAddUp : List Node → List Held → Relation → Work → (ℕ → ℕ) → Type 0
+TicksAddUp tree assigned before work start =
+    (alike : Wait → Wait → Bool) (waits : List Wait) (rows : List Row) → IsEquivalence alike
+    → AreWaits tree assigned before work start waits → Obeys before work start → AreRows alike waits rows
     → sum_by (λ row. row.ticks) rows ≡ waits_of work start
 
 -- where two plans start each message at the same tick, their rows are equal
 abbrev pub RowsAreOne : Version → List Node → List Held → Work → Type 0
 RowsAreOne version tree assigned work =
-    (alike : ℕ → ℕ → Bool) (start other : ℕ → ℕ) (waits other_waits : List Wait)
+    (alike : Wait → Wait → Bool) (start other : ℕ → ℕ) (waits other_waits : List Wait)
     (rows other_rows : List Row) → length assigned ≡ work.count → AwaitsEarlier work
     → AreSame work start other
-    → AreWaits (started_before version tree assigned start) work start waits
-    → AreWaits (started_before version tree assigned other) work other other_waits
+    → AreWaits tree assigned (started_before version tree assigned start) work start waits
+    → AreWaits tree assigned (started_before version tree assigned other) work other other_waits
     → AreRows alike waits rows → AreRows alike other_waits other_rows
     → rows ≡ other_rows

@@ -11,7 +11,8 @@
 //! - `by_affinity`, `by_name`: the texts of these; `grouping`: by what messages are told of together.
 //! - `waits`: the waits of a plan; `wait_groups`: the messages that are told of together;
 //!   `wait_rows`: the waits of one kind, told in one row; `wait_text`: their text.
-//! - `worst`: the messages of greatest latency; `worst_text`: their text.
+//! - `wait_locks`: the locks by which messages wait for one another.
+//! - `worst`: the messages of greatest latency; `worst_text`: their text; `cell_text`: a cell in a text.
 //! - `told`: what can be asked of a trace under a hierarchy.
 //! - `laws`, `part_laws`, `wait_laws`: the columns of these texts add up.
 //!
@@ -30,6 +31,7 @@
 mod below;
 mod by_affinity;
 mod by_name;
+mod cell_text;
 mod fields;
 pub mod figures;
 mod grouped;
@@ -48,6 +50,7 @@ mod tally;
 mod told;
 mod wait_groups;
 pub mod wait_laws;
+mod wait_locks;
 mod wait_rows;
 mod wait_text;
 mod waits;
@@ -56,6 +59,7 @@ mod worst_text;
 
 pub use by_affinity::affinities_text;
 pub use by_name::names_text;
+pub use cell_text::push_cell;
 pub use fields::{QUALITY, QualityFields};
 pub use figures::{Figures, figures_of};
 pub use grouping::{Columns, Grouping, Label};
@@ -67,6 +71,7 @@ pub use sweep::{SWEEP_WORKERS, figures_text, list_figures, list_figures_for, swe
 pub use tally::Tally;
 pub use told::Told;
 pub use wait_groups::groups;
+pub use wait_locks::LockCells;
 pub use wait_rows::{Group, Row};
 pub use wait_text::waiting_text;
 pub use waits::Wait;

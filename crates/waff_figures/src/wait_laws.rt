@@ -21,14 +21,14 @@ pub fn ready_is_greatest()
 /// In a plan that obeys, the waits of a message add up to the time from its issue to its start.
 pub fn waits_add_up()
     ensures { (version : Version) (tree : List Node) (assigned : List Held) (work : Work)
-        (start : ℕ → ℕ) → WaitsAddUp (started_before version tree assigned start) work start }
+        (start : ℕ → ℕ) → WaitsAddUp tree assigned (started_before version tree assigned start) work start }
 {}
 
 /// In a plan that obeys, a message that starts as soon as one that it awaits holds it back no longer waits for
 /// nobody.
 pub fn awaiting_is_no_wait()
     ensures { (version : Version) (tree : List Node) (assigned : List Held) (work : Work)
-        (start : ℕ → ℕ) → AwaitingIsNoWait (started_before version tree assigned start) work start }
+        (start : ℕ → ℕ) → AwaitingIsNoWait tree assigned (started_before version tree assigned start) work start }
 {}
 
 /// Each wait is told of in one row.
@@ -39,7 +39,7 @@ pub fn waits_are_once()
 /// In a plan that obeys, the ticks of all rows add up to how long all messages wait.
 pub fn ticks_add_up()
     ensures { (version : Version) (tree : List Node) (assigned : List Held) (work : Work)
-        (start : ℕ → ℕ) → TicksAddUp (started_before version tree assigned start) work start }
+        (start : ℕ → ℕ) → TicksAddUp tree assigned (started_before version tree assigned start) work start }
 {}
 
 /// The rows of a plan are one list.

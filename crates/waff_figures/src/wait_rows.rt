@@ -5,12 +5,14 @@ ghost use Rattle.std.specs.Prelude.{OnOk, length};
 ghost use Rattle.std.specs.List.{AllPairs};
 ghost use Rattle.waff_figures.specs.Waits.{ComesFirst, IsWaitAmong};
 ghost use Rattle.waff_figures.specs.WaitRows.{AreRows, kind_in, row_over, row_with};
-ghost use Rattle.waff_figures.specs.WaitRows.{rows_by, rows_with, same_group};
+ghost use Rattle.waff_figures.specs.WaitRows.{rows_by, rows_with, same_in};
 
+use crate::wait_locks::space_by;
 use crate::waits::Wait;
 use indexmap::IndexSet;
 use std::alloc::{AllocError, Global};
 use std::cmp::Reverse;
+use waff_model::Cell;
 
 /// What is told of all waits of one kind: how many messages wait so, and how long.
 #[derive(Clone, Copy)]
@@ -28,41 +30,56 @@ pub struct Row {
 /// affinity.
 pub type Group = (u32, u32);
 
-/// The rows of these waits, where message n is in the group `groups[n - 1]`: the most ticks first,
-/// and of as many ticks in the order of their first waits.
-pub(crate) fn rows(alloc: Global, waits: &[Wait], groups: &[Group]) -> Result<Vec<Row>, AllocError>
+/// What kind a wait is of: the groups of its message and of the one that it waits for, and the space of the lock by
+/// which it does.
+type Kind = (Group, (Option<Group>, Option<u32>));
+
+/// The rows of these waits, where message n is in the group `groups[n - 1]` and the locks are numbered by these
+/// cells: the most ticks first, and of as many ticks in the order of their first waits.
+pub(crate) fn rows(
+    alloc: Global,
+    waits: &[Wait],
+    groups: &[Group],
+    cells: &[Cell],
+) -> Result<Vec<Row>, AllocError>
     requires order { AllPairs ComesFirst waits.now }
     requires among { All (IsWaitAmong (length groups.now)) waits.now }
-    ensures { IfOk result (λ rows. AreRows (same_group groups.now) waits.now rows.items) }
+    ensures { IfOk result (λ rows. AreRows (same_in groups.now cells.now) waits.now rows.items) }
 {
-    let mut rows = gathered(alloc, waits, groups)?;
+    let mut rows = gathered(alloc, waits, groups, cells)?;
     rows.sort_by_key(|row| Reverse(row.ticks))?;
     Ok(rows)
 }
 
 /// The rows in the order of their first waits.
-fn gathered(alloc: Global, waits: &[Wait], groups: &[Group]) -> Result<Vec<Row>, AllocError>
+fn gathered(
+    alloc: Global,
+    waits: &[Wait],
+    groups: &[Group],
+    cells: &[Cell],
+) -> Result<Vec<Row>, AllocError>
     requires among { All (IsWaitAmong (length groups.now)) waits.now }
-    ensures { IfOk result (λ rows. rows.items ≡ rows_by (same_group groups.now) waits.now) }
+    ensures { IfOk result (λ rows. rows.items ≡ rows_by (same_in groups.now cells.now) waits.now) }
 {
     let mut kinds = IndexSet::new(alloc);
-    gathered_by(alloc, &mut kinds, waits, groups)
+    gathered_by(alloc, &mut kinds, waits, groups, cells)
 }
 
 /// The same rows, by a set that has no kind yet.
 fn gathered_by(
     alloc: Global,
-    kinds: &mut IndexSet<(Group, Option<Group>)>,
+    kinds: &mut IndexSet<Kind>,
     waits: &[Wait],
     groups: &[Group],
+    cells: &[Cell],
 ) -> Result<Vec<Row>, AllocError>
     requires none { kinds.old.keys ≡ [] }
     requires among { All (IsWaitAmong (length groups.now)) waits.now }
-    ensures { IfOk result (λ rows. rows.items ≡ rows_by (same_group groups.now) waits.now) }
+    ensures { IfOk result (λ rows. rows.items ≡ rows_by (same_in groups.now cells.now) waits.now) }
 {
     let mut rows = Vec::new(alloc);
     for wait in waits {
-        let (place, is_new) = kinds.insert_full(kind(groups, wait))?;
+        let (place, is_new) = kinds.insert_full(kind(groups, cells, wait))?;
         tell(&mut rows, place, is_new, wait)?;
     }
     Ok(rows)
@@ -87,16 +104,19 @@ fn tell(rows: &mut Vec<Row>, place: usize, is_new: bool, wait: &Wait) -> Result<
     Ok(())
 }
 
-/// What kind a wait is of: the groups of the message that waits and of the one that it waits for.
-fn kind(groups: &[Group], wait: &Wait) -> (Group, Option<Group>)
+/// What kind a wait is of.
+fn kind(groups: &[Group], cells: &[Cell], wait: &Wait) -> Kind
     requires { IsWaitAmong (length groups.now) wait.now }
-    ensures { result ≡ kind_in groups.now wait.now }
+    ensures { result ≡ kind_in groups.now cells.now wait.now }
 {
     let on = match wait.on {
         Some(other) => Some(groups[other as usize - 1]),
         None => None,
     };
-    (groups[wait.message as usize - 1], on)
+    (
+        groups[wait.message as usize - 1],
+        (on, space_by(cells, wait.by)),
+    )
 }
 
 /// The row of one wait.

@@ -175,46 +175,58 @@ module _ (tree : List Node) (assigned : List Held) (sizes : List ℕ) (messages 
   plan_for up rule None start p = p
   plan_for up rule (Some k) start p = p
 
-  waits : {v w : Version} → Both v w → (rule : Rule) (workers : Option ℕ) (grouping : Grouping) (text : List ℕ)
-      → TellsWaits rule workers grouping (in_version v) text → TellsWaits rule workers grouping (in_version w) text
-  waits down rule workers grouping text p = record {
+  waits : {v w : Version} → Both v w → (rule : Rule) (workers : Option ℕ) (grouping : Grouping) (layout : Hierarchy) (text : List ℕ)
+      → TellsWaits rule workers grouping layout (in_version v) text → TellsWaits rule workers grouping layout (in_version w) text
+  waits down rule workers grouping layout text p = record {
     starts = p.starts;
+    cells = p.cells;
     waits = p.waits;
     rows = p.rows;
     planned = plan_for down rule workers (start_of p.starts) p.planned;
+    are_cells = p.are_cells;
     are_waits = p.are_waits;
     are_rows = p.are_rows;
     adds_up = p.adds_up;
     lines = p.lines;
   }
-  waits up rule workers grouping text p = record {
+  waits up rule workers grouping layout text p = record {
     starts = p.starts;
+    cells = p.cells;
     waits = p.waits;
     rows = p.rows;
     planned = plan_for up rule workers (start_of p.starts) p.planned;
+    are_cells = p.are_cells;
     are_waits = p.are_waits;
     are_rows = p.are_rows;
     adds_up = p.adds_up;
     lines = p.lines;
   }
 
-  worst : {v w : Version} → Both v w → (rule : Rule) (workers : Option ℕ) (most : ℕ) (text : List ℕ)
-      → TellsWorst rule workers most (in_version v) text → TellsWorst rule workers most (in_version w) text
-  worst down rule workers most text p = record {
+  worst : {v w : Version} → Both v w → (rule : Rule) (workers : Option ℕ) (most : ℕ) (layout : Hierarchy) (text : List ℕ)
+      → TellsWorst rule workers most layout (in_version v) text → TellsWorst rule workers most layout (in_version w) text
+  worst down rule workers most layout text p = record {
     starts = p.starts;
+    cells = p.cells;
     waited = p.waited;
+    by = p.by;
     worst = p.worst;
     planned = plan_for down rule workers (start_of p.starts) p.planned;
+    are_cells = p.are_cells;
     are_waited = p.are_waited;
+    are_by = p.are_by;
     are_worst = p.are_worst;
     lines = p.lines;
   }
-  worst up rule workers most text p = record {
+  worst up rule workers most layout text p = record {
     starts = p.starts;
+    cells = p.cells;
     waited = p.waited;
+    by = p.by;
     worst = p.worst;
     planned = plan_for up rule workers (start_of p.starts) p.planned;
+    are_cells = p.are_cells;
     are_waited = p.are_waited;
+    are_by = p.are_by;
     are_worst = p.are_worst;
     lines = p.lines;
   }
@@ -274,8 +286,8 @@ module _ (tree : List Node) (assigned : List Held) (sizes : List ℕ) (messages 
   tells both (told.Sweep given rule) other layout text p = sweep both rule (numbers_or given sweep_workers) text p
   tells both (told.Limits given rule) other layout text p = absurd (cc other)
   tells both (told.Where workers rule label columns) other layout text p = spends both (has_locks layout.spaces) rule workers label columns text p
-  tells both (told.Waits workers rule grouping) other layout text p = waits both rule workers grouping text p
-  tells both (told.Worst workers rule most) other layout text p = worst both rule workers most text p
+  tells both (told.Waits workers rule grouping) other layout text p = waits both rule workers grouping layout text p
+  tells both (told.Worst workers rule most) other layout text p = worst both rule workers most layout text p
   tells {v} {w} both (told.Why grouping) other layout text p = why v w grouping layout text p
   tells both (told.Locks workers rule kind steps) other layout text p =
       locks (record { workers = workers; rule = rule; kind = kind; steps = steps }) layout sizes messages both text p

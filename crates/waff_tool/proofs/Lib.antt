@@ -29,7 +29,8 @@ mod ResultLemmas
 mod StateLines
 pub mod TextUniqueness
 pub mod ToldTexts
-pub mod WaitsTexts
+pub mod LockLists
+mod WaitsTexts
 pub mod WhereTexts
 pub mod WorstTexts
 pub mod WhyTexts

@@ -32,8 +32,8 @@ one told.Needs layout instance is_layout is_trace sound = needs_are_one instance
 one (told.Sweep given rule) layout instance is_layout is_trace sound = sweep_is_one rule (numbers_or given sweep_workers) instance sound
 one (told.Limits given rule) layout instance is_layout is_trace sound = limits_text_is_one rule (numbers_or given []) layout.spaces instance sound
 one (told.Where workers rule label columns) layout instance is_layout is_trace sound = where_is_one instance sound (has_locks layout.spaces) rule workers label columns
-one (told.Waits workers rule grouping) layout instance is_layout is_trace sound = waits_are_one rule workers grouping instance sound
-one (told.Worst workers rule most) layout instance is_layout is_trace sound = worst_are_one rule workers most instance sound
+one (told.Waits workers rule grouping) layout instance is_layout is_trace sound = waits_are_one rule workers grouping layout instance sound
+one (told.Worst workers rule most) layout instance is_layout is_trace sound = worst_are_one rule workers most layout instance sound
 one (told.Why grouping) layout instance is_layout is_trace sound = why_is_one grouping layout instance
 one (told.Locks workers rule kind steps) layout instance is_layout is_trace sound =
     text_is_one (record { workers = workers; rule = rule; kind = kind; steps = steps }) layout instance.trace is_layout is_trace

@@ -2,7 +2,10 @@
 use Rattle.std.proofs.Common.{◌≡◌, ℕ, zero, suc, ◌⊎◌, inl, inr, List, [], ◌∷◌, ◌++◌, length, Option, Some, None, Contains, arith, sym, ◌∙◌, ap, subst}
 use Rattle.std.proofs.lemmas.List.Elements.{Contains-append_cases}
 use Rattle.waff_model.specs.Unique.{AtMostOne}
+use Rattle.waff_model.specs.Layout.{Hierarchy, Space}
+use Rattle.waff_model.specs.declared.cell.Cell.{Cell}
 use Rattle.waff_assign.specs.Instance.{Instance}
+use Rattle.waff_assign.specs.Lowest.{ListsLocks}
 use Rattle.waff_plan.specs.Instances.{served_first, started_first, work_of_instance}
 use Rattle.waff_plan.specs.Obeys.{IsLeast, Obeys}
 use Rattle.waff_plan.specs.Timetable.{AreTimings, timings_of}
@@ -20,27 +23,29 @@ use Rattle.waff_figures.specs.Least.{least_in}
 use Rattle.waff_figures.specs.Sweep.{AreListed, IsListed}
 use Rattle.waff_figures.specs.Waits.{AreWaits}
 use Rattle.waff_figures.specs.WaitLaws.{TicksAddUp}
-use Rattle.waff_figures.specs.WaitRows.{AreRows}
+use Rattle.waff_figures.specs.WaitRows.{AreRows, same_kind}
 use Rattle.waff_figures.specs.WaitText.{are_alike, waits_lines}
 use Rattle.waff_figures.specs.declared.figures.Figures.{Figures}
 use Rattle.waff_figures.specs.declared.grouping.Grouping.{Grouping}
 use Rattle.waff_figures.specs.declared.wait_rows.Row.{Row}
 use Rattle.waff_figures.specs.declared.waits.Wait.{Wait}
 use Rattle.waff_figures.proofs.FigureLaws.{figures_moved}
+use Rattle.waff_figures.proofs.WaitKinds.{kinds_are}
 use Rattle.waff_figures.proofs.WaitUnique.{alike_laws, rows_are_one}
 use Rattle.waff_tool.specs.WaitsText.{IsPlanFor, TellsWaits, WaitsAreSwept}
+use Rattle.waff_assign.proofs.Uniqueness.{same_locks}
 use Rattle.waff_tool.proofs.FigureUniqueness.{told_swept}
 use Rattle.waff_tool.proofs.CertificateLemmas.{busy_served}
 use Rattle.waff_tool.proofs.PlanUniqueness.{IsSound, count_in, least_in_one, rule_in_one}
 use Rattle.waff_tool.proofs.TextUniqueness.{is_sound}
 
--- what is told of a plan with these timings and starts
-abbrev pub IsTold : Grouping → Instance → List Timing → List ℕ → List ℕ → Type 0
-IsTold grouping instance timings starts text =
+-- what is told of a plan with these timings and starts, by these cells of locks
+abbrev pub IsTold : Grouping → List Space → List Cell → Instance → List Timing → List ℕ → List ℕ → Type 0
+IsTold grouping spaces cells instance timings starts text =
     (waits : List Wait) × (rows : List Row)
-    × AreWaits (started_first instance (start_of starts)) (work_of timings) (start_of starts) waits
-    × AreRows (are_alike grouping instance.assigned (message_names instance.trace.messages)) waits rows
-    × (text ≡ text_of (waits_lines grouping instance.tree instance.assigned (message_names instance.trace.messages) rows))
+    × AreWaits instance.tree instance.assigned (started_first instance (start_of starts)) (work_of timings) (start_of starts) waits
+    × AreRows (same_kind (are_alike grouping instance.assigned (message_names instance.trace.messages)) cells) waits rows
+    × (text ≡ text_of (waits_lines grouping spaces cells instance.tree instance.assigned (message_names instance.trace.messages) rows))
 
 -- such a plan obeys the order in which it is to serve messages, and that of its chains
 pub planned_obeys : (rule : Rule) (instance : Instance) (workers : Option ℕ) (start : ℕ → ℕ) → IsPlanFor rule instance workers start
@@ -57,20 +62,23 @@ module _ (instance : Instance) (are : AreTimings instance.trace.version (timings
       served_obeys_started instance.tree instance.assigned (timings_of instance.trace.messages) start (count_is instance.trace.messages ∙ sym same)
       instance.trace.version are obeys
 
-pub told_text : (rule : Rule) (workers : Option ℕ) (grouping : Grouping) (instance : Instance) (starts text : List ℕ)
-    → AreTimings instance.trace.version (timings_of instance.trace.messages) → length instance.assigned ≡ length instance.trace.messages
-    → TicksAddUp (started_first instance (start_of starts)) (work_of_instance instance) (start_of starts)
+pub told_text : (rule : Rule) (workers : Option ℕ) (grouping : Grouping) (layout : Hierarchy) (cells : List Cell) (instance : Instance) (starts text : List ℕ)
+    → ListsLocks layout instance.trace.messages cells → AreTimings instance.trace.version (timings_of instance.trace.messages) → length instance.assigned ≡ length instance.trace.messages
+    → TicksAddUp instance.tree instance.assigned (started_first instance (start_of starts)) (work_of_instance instance) (start_of starts)
     → IsPlanFor rule instance workers (start_of starts)
-    → IsTold grouping instance (timings_of instance.trace.messages) starts text → TellsWaits rule workers grouping instance text
-told_text rule workers grouping instance starts text are same adds planned told = record {
+    → IsTold grouping layout.spaces cells instance (timings_of instance.trace.messages) starts text → TellsWaits rule workers grouping layout instance text
+told_text rule workers grouping layout cells instance starts text listed are same adds planned told = record {
   starts = starts;
+  cells = cells;
   waits = told.0;
   rows = told.1;
   planned = planned;
+  are_cells = listed;
   are_waits = told.2;
   are_rows = told.3;
-  adds_up = adds (are_alike grouping instance.assigned (message_names instance.trace.messages)) told.0 told.1
-      (alike_laws grouping instance.assigned (message_names instance.trace.messages)) told.2
+  adds_up = adds (same_kind (are_alike grouping instance.assigned (message_names instance.trace.messages)) cells) told.0 told.1
+      (kinds_are (are_alike grouping instance.assigned (message_names instance.trace.messages)) cells
+      (alike_laws grouping instance.assigned (message_names instance.trace.messages))) told.2
       (started_obeys instance are same (start_of starts) (planned_obeys rule instance workers (start_of starts) planned)) told.3;
   lines = told.4;
 }
@@ -81,15 +89,19 @@ pub same_plan : (rule : Rule) (instance : Instance) → IsSound instance → (wo
 same_plan rule instance sound None start other p q = least_in_one instance sound start other p q
 same_plan rule instance sound (Some k) start other p q = rule_in_one instance sound rule k start other p q
 
-pub waits_are_one : (rule : Rule) (workers : Option ℕ) (grouping : Grouping) (instance : Instance) → IsSound instance
-    → AtMostOne (TellsWaits rule workers grouping instance)
-waits_are_one rule workers grouping instance sound text other p q =
+pub waits_are_one : (rule : Rule) (workers : Option ℕ) (grouping : Grouping) (layout : Hierarchy) (instance : Instance) → IsSound instance
+    → AtMostOne (TellsWaits rule workers grouping layout instance)
+waits_are_one rule workers grouping layout instance sound text other p q =
     let work = work_of_instance instance in
     let names = message_names instance.trace.messages in
+    let alike = are_alike grouping instance.assigned names in
+    let cells = same_locks layout instance.trace.messages p.cells q.cells p.are_cells q.are_cells in
     let plans = same_plan rule instance sound workers (start_of p.starts) (start_of q.starts) p.planned q.planned in
-    let rows = rows_are_one instance.trace.version instance.tree instance.assigned work (are_alike grouping instance.assigned names) (start_of p.starts)
-    (start_of q.starts) p.waits q.waits p.rows q.rows (count_in instance sound) sound.earlier plans p.are_waits q.are_waits p.are_rows q.are_rows in
-    p.lines ∙ ap (λ rs. text_of (waits_lines grouping instance.tree instance.assigned names rs)) rows ∙ sym q.lines
+    let rows = rows_are_one instance.trace.version instance.tree instance.assigned work (same_kind alike q.cells) (start_of p.starts)
+    (start_of q.starts) p.waits q.waits p.rows q.rows (count_in instance sound) sound.earlier plans p.are_waits q.are_waits
+    (subst (λ cs. AreRows (same_kind alike cs) p.waits p.rows) cells p.are_rows) q.are_rows in
+    p.lines ∙ ap (λ cs. text_of (waits_lines grouping layout.spaces cs instance.tree instance.assigned names p.rows)) cells
+    ∙ ap (λ rs. text_of (waits_lines grouping layout.spaces q.cells instance.tree instance.assigned names rs)) rows ∙ sym q.lines
 
 -- the lines of a sweep for as many workers are of the same plan
 module _ (rule : Rule) (instance : Instance) (sound : IsSound instance) (shortest : ℕ) (limit : Option ℕ) (start : ℕ → ℕ)

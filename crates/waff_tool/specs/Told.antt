@@ -31,7 +31,7 @@ Tells (told.Sweep given rule) layout = TellsSweep rule (numbers_or given sweep_w
 Tells (told.Limits given rule) layout = TellsLimits rule (numbers_or given []) layout.spaces
 Tells (told.Where workers rule label columns) layout =
     TellsWhere (has_locks layout.spaces) rule workers label columns
-Tells (told.Waits workers rule grouping) layout = TellsWaits rule workers grouping
-Tells (told.Worst workers rule most) layout = TellsWorst rule workers most
+Tells (told.Waits workers rule grouping) layout = TellsWaits rule workers grouping layout
+Tells (told.Worst workers rule most) layout = TellsWorst rule workers most layout
 Tells (told.Why grouping) layout = TellsWhy grouping layout
 Tells (told.Locks workers rule kind steps) layout = TellsLocksOf workers rule kind steps layout

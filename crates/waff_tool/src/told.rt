@@ -88,12 +88,22 @@ fn text_of<R: Threads + Sync>(
             let locks = accepted.layout.has_locks();
             spent_text(alloc, &case, *workers, *rule, *label, *columns, locks)
         }
-        Told::Waits(workers, rule, grouping) => {
-            waited_text(alloc, &case, *workers, *rule, Waiting::Rows(*grouping))
-        }
-        Told::Worst(workers, rule, most) => {
-            waited_text(alloc, &case, *workers, *rule, Waiting::Worst(*most))
-        }
+        Told::Waits(workers, rule, grouping) => waited_text(
+            alloc,
+            &accepted.layout,
+            &case,
+            *workers,
+            *rule,
+            Waiting::Rows(*grouping),
+        ),
+        Told::Worst(workers, rule, most) => waited_text(
+            alloc,
+            &accepted.layout,
+            &case,
+            *workers,
+            *rule,
+            Waiting::Worst(*most),
+        ),
         Told::Why(grouping) => lifted_text(alloc, accepted, *grouping),
         Told::Locks(workers, rule, kind, steps) => {
             let wanted = Wanted {

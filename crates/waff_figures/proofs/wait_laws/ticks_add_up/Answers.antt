@@ -3,4 +3,4 @@ use Rattle.waff_figures.proofs.WaitSums.{ticks_add_up}
 use Rattle.waff_figures.proofs.wait_laws.ticks_add_up.Goals as goal
 
 pub returns : goal.returns
-returns c = λ version tree assigned work start. ticks_add_up (started_before version tree assigned start) work start
+returns c = λ version tree assigned work start. ticks_add_up tree assigned (started_before version tree assigned start) work start

@@ -4,7 +4,7 @@ use Rattle.std.proofs.lemmas.Result.{IfOk-weaker}
 use Rattle.waff_plan.specs.Planned.{planned_pairs, planned_starts, planned_work}
 use Rattle.waff_figures.specs.ByName.{message_names}
 use Rattle.waff_figures.specs.Waits.{AreWaits, ComesFirst, IsWaitAmong}
-use Rattle.waff_figures.specs.WaitRows.{AreRows, same_group}
+use Rattle.waff_figures.specs.WaitRows.{AreRows, same_group, same_in, same_kind}
 use Rattle.waff_figures.specs.WaitText.{are_alike}
 use Rattle.waff_figures.specs.declared.wait_rows.Row.{Row}
 use Rattle.waff_figures.specs.declared.waits.Wait.{Wait}
@@ -26,22 +26,23 @@ returns c =
     let groups = c.in_ok-groups.groups.items in
     let alike = are_alike c.args.grouping assigned (message_names c.args.planned.now.case.trace.now.messages) in
     let among = c.in_ok-waits.ensures.among in
-    let told : (rows : List Row) → AreRows (same_group c.as_slice-2.result.now) c.as_slice.result.now rows → AreRows (same_group groups) waits rows
+    let told : (rows : List Row) → AreRows (same_in c.as_slice-2.result.now c.args.cells.now) c.as_slice.result.now rows → AreRows (same_in groups c.args.cells.now) waits rows
     = λ rows are.
-    subst (λ gs. AreRows (same_group gs) waits rows) c.as_slice-2.ensures.value
-    (subst (λ ws. AreRows (same_group c.as_slice-2.result.now) ws rows) c.as_slice.ensures.value are) in
+    subst (λ gs. AreRows (same_in gs c.args.cells.now) waits rows) c.as_slice-2.ensures.value
+    (subst (λ ws. AreRows (same_in c.as_slice-2.result.now c.args.cells.now) ws rows) c.as_slice.ensures.value are) in
     record {
-      rows = IfOk-weaker c.rows.result (λ rows. AreRows (same_group c.as_slice-2.result.now) c.as_slice.result.now rows.items)
+      rows = IfOk-weaker c.rows.result (λ rows. AreRows (same_in c.as_slice-2.result.now c.args.cells.now) c.as_slice.result.now rows.items)
           (λ rows. (ws : List Wait)
-          × AreWaits (planned_pairs c.args.planned.now) (planned_work c.args.planned.now) (planned_starts c.args.planned.now) ws × AreRows alike ws rows.items)
+          × AreWaits c.args.planned.now.case.tree.now assigned (planned_pairs c.args.planned.now) (planned_work c.args.planned.now)
+          (planned_starts c.args.planned.now) ws × AreRows (same_kind alike c.args.cells.now) ws rows.items)
           (λ rows are. (
             waits,
             c.in_ok-waits.ensures.waits,
-            rows_same (same_group groups) alike (length assigned) c.in_ok-groups.ensures.tell waits among rows.items (told rows.items are),
+            rows_same (same_group groups) alike (length assigned) c.in_ok-groups.ensures.tell c.args.cells.now waits among rows.items (told rows.items are),
           ))
           c.rows.ensures;
-      among = IfOk-weaker c.rows.result (λ rows. AreRows (same_group c.as_slice-2.result.now) c.as_slice.result.now rows.items)
+      among = IfOk-weaker c.rows.result (λ rows. AreRows (same_in c.as_slice-2.result.now c.args.cells.now) c.as_slice.result.now rows.items)
           (λ rows. All (λ (row : Row). IsWaitAmong (length assigned) row.first) rows.items)
-          (λ rows are. rows_among (same_group groups) alike (length assigned) c.in_ok-groups.ensures.tell waits among rows.items (told rows.items are))
+          (λ rows are. rows_among (same_group groups) alike (length assigned) c.in_ok-groups.ensures.tell c.args.cells.now waits among rows.items (told rows.items are))
           c.rows.ensures;
     }

@@ -8,5 +8,5 @@ abbrev pub invariant-loop-timed : goal.invariant-loop-timed
 invariant-loop-timed l =
     string_bytes l.text ≡ string_bytes l.initial.text
     ++ text_of (map (λ timed.
-    worst_row l.planned.case.tree.now l.planned.case.assigned.now l.planned.case.trace.now.messages (planned_work l.planned) (planned_starts l.planned)
-    timed.message (get_or l.waited (timed.message - 1) None)) (take l.timed-index l.worst))
+    worst_row l.locks.layout.now.spaces l.locks.cells.now l.planned.case.tree.now l.planned.case.assigned.now l.planned.case.trace.now.messages (planned_work l.planned) (planned_starts l.planned)
+    timed.message (get_or l.waited (timed.message - 1) None) (get_or l.by (timed.message - 1) None)) (take l.timed-index l.worst))

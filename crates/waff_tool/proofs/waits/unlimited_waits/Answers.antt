@@ -10,8 +10,8 @@ invariant_of-planned c = record {
   lengths = as_many c.args.case.now.trace.now.messages _ _ c.in_ok-plan.ensures.timings c.args.case.now.lengths;
 }
 
-pub planned_waits-text-requires : goal.planned_waits-text-requires
-planned_waits-text-requires c = c.in_ok-plan.ensures.least.obeys
+pub planned_waits-text-requires-clause-obeys : goal.planned_waits-text-requires-clause-obeys
+planned_waits-text-requires-clause-obeys c = c.in_ok-plan.ensures.least.obeys
 
 pub returns : goal.returns
 returns c =

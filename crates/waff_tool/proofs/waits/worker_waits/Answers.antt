@@ -16,8 +16,8 @@ invariant_of-planned c =
       lengths = as_many c.args.case.now.trace.now.messages _ _ timings c.args.case.now.lengths;
     }
 
-pub planned_waits-text-requires : goal.planned_waits-text-requires
-planned_waits-text-requires c =
+pub planned_waits-text-requires-clause-obeys : goal.planned_waits-text-requires-clause-obeys
+planned_waits-text-requires-clause-obeys c =
     let made = c.in_ok-made.ensures in
     let list = rw (made.timings, c.number.ensures.number) at made.follows in
     rw (c.plan-plan.ensures.plan, made.version, made.timings)

@@ -1,6 +1,6 @@
 use Rattle.std.proofs.Common.{◌+◌, ◌-◌, length}
 use Rattle.waff_assign.proofs.Contentions.{AreAhead}
-use Rattle.waff_assign.proofs.order.contend.Given as goal
+use Rattle.waff_assign.proofs.order.first_contended.Given as goal
 
 abbrev pub invariant-loop-at : goal.invariant-loop-at
 invariant-loop-at l = AreAhead l.uses l.others l.at l.other

@@ -1,10 +1,10 @@
-use Rattle.std.proofs.Common.{rules, false, get_or, inl, inr, sym, ◌∙◌}
+use Rattle.std.proofs.Common.{false, get_or, inl, inr, sym, ◌∙◌}
 use Rattle.std.proofs.lemmas.Bool.{false≢true}
 use Rattle.std.proofs.lemmas.List.Elements.{Contains-get_or}
 use Rattle.std.proofs.lemmas.Option.{slice_get-get_or}
 use Rattle.waff_assign.specs.declared.held.LockUse.{LockUse}
-use Rattle.waff_assign.proofs.Contentions.{contend_from, step_first, step_second, none_ahead}
-use Rattle.waff_assign.proofs.order.contend.Goals as goal
+use Rattle.waff_assign.proofs.Contentions.{first_met, none_ahead, step_first, step_second}
+use Rattle.waff_assign.proofs.order.first_contended.Goals as goal
 
 -- what a read past the end would give
 abbrev none : LockUse
@@ -13,12 +13,10 @@ none = record { lock = 0; alone = false }
 pub returns-then-uses_contend : goal.returns-then-uses_contend
 returns-then-uses_contend c =
     let uses = c.args.uses.now in
-    let others = c.args.others.now in (
-      λ yes. contend_from uses others (get_or uses c.loop-at.at none) (get_or others c.loop-at.other none)
-          (Contains-get_or uses c.loop-at.at none c.loop-at-test.true) (Contains-get_or others c.loop-at.other none c.if-other-others.true)
-          (c.uses_contend.ensures.0 c.if-uses_contend.true),
-      λ contend. search rules,
-    )
+    let others = c.args.others.now in
+    first_met uses others c.loop-at.at c.loop-at.other (get_or uses c.loop-at.at none) (get_or others c.loop-at.other none) c.requires.rising
+    (slice_get-get_or uses c.loop-at.at none c.loop-at-test.true) (Contains-get_or uses c.loop-at.at none c.loop-at-test.true)
+    (Contains-get_or others c.loop-at.other none c.if-other-others.true) c.loop-at.invariant (c.uses_contend.ensures.0 c.if-uses_contend.true)
 
 pub loop-at-preserved-then-one-two : goal.loop-at-preserved-then-one-two
 loop-at-preserved-then-one-two c =
@@ -37,13 +35,9 @@ loop-at-preserved c =
     c.if-one-two.false c.loop-at.invariant
 
 pub returns-else-other-others : goal.returns-else-other-others
-returns-else-other-others c = (
-  λ no. absurd (false≢true no),
-  λ contend. absurd (none_ahead c.args.uses.now c.args.others.now c.loop-at.at c.loop-at.other contend.0 (inr c.if-other-others.false) c.loop-at.invariant contend.1),
-)
+returns-else-other-others c =
+    none_ahead c.args.uses.now c.args.others.now c.loop-at.at c.loop-at.other (inr c.if-other-others.false) c.loop-at.invariant
 
 pub returns-after-loop-at : goal.returns-after-loop-at
-returns-after-loop-at c = (
-  λ no. absurd (false≢true no),
-  λ contend. absurd (none_ahead c.args.uses.now c.args.others.now c.loop-at.at c.loop-at.other contend.0 (inl c.loop-at-test.false) c.loop-at.invariant contend.1),
-)
+returns-after-loop-at c =
+    none_ahead c.args.uses.now c.args.others.now c.loop-at.at c.loop-at.other (inl c.loop-at-test.false) c.loop-at.invariant
