@@ -4,7 +4,7 @@ use std::alloc::{AllocError, Global};
 use std::process::Abort;
 use std::thread::Threads;
 use waff_assign::{Assigned, assign_by_threads};
-use waff_model::{Cell, Layout, Op, Trace, Tree, Version};
+use waff_model::{Await, Cell, Layout, Op, Trace, Tree, Version};
 use waff_read::{TraceError, read_hierarchy, read_trace_by_threads};
 use waff_samples::H1;
 
@@ -71,6 +71,70 @@ fn have_the_owners_of_their_cells(rt: HostRuntime) {
     drop(layout);
 }
 
+/// The same with lists: each message but the first awaits the one before it. Behind one of them
+/// stands a blank line, behind none where its number is 0.
+fn listed(alloc: Global, count: u32, blank: u32) -> Result<String, AllocError> {
+    let mut trace = String::from_str(alloc, "message,cost,release,client,think,after,ops\n")?;
+    trace.push_str("m,1,0,-,0,,read f:1\n")?;
+    for before in 1..count {
+        let n = before + 1;
+        let index = n % 8;
+        writeln!(trace, "m,{n},0,-,0,{before},read f:{index}")?;
+        if n == blank {
+            trace.push_str("\n")?;
+        }
+    }
+    Ok(trace)
+}
+
+/// The text has to be read as `listed` writes it.
+fn is_listed<R: Abort + Threads + Sync>(
+    rt: &R,
+    alloc: Global,
+    layout: &Layout,
+    text: &str,
+    count: u32,
+) {
+    let trace = read_trace_by_threads(rt, alloc, layout, Version::V4, text.as_bytes());
+    let trace = trace.expect(rt, "a trace");
+    assert!(rt; trace.len() == count);
+    for n in 1..count {
+        is_reader(rt, &trace, n + 1);
+        assert!(rt; n + 1 <= trace.len());
+        let list = trace.message(n + 1).after.as_slice();
+        let before = Await { message: n, gap: 0 };
+        assert!(rt; list.len() == 1 && list[0] == before, "{n}");
+    }
+    drop(trace);
+}
+
+#[test]
+fn have_their_lists(rt: HostRuntime) {
+    let layout = read_hierarchy(rt.alloc(), H1.as_bytes()).expect(&rt, "a hierarchy");
+    let text = listed(rt.alloc(), 40000, 0).expect(&rt, "a text");
+    is_listed(&rt, rt.alloc(), &layout, text.as_str(), 40000);
+    drop(layout);
+}
+
+#[test]
+fn may_have_lists_behind_a_blank_line(rt: HostRuntime) {
+    let layout = read_hierarchy(rt.alloc(), H1.as_bytes()).expect(&rt, "a hierarchy");
+    let text = listed(rt.alloc(), 40000, 100).expect(&rt, "a text");
+    is_listed(&rt, rt.alloc(), &layout, text.as_str(), 40000);
+    drop(layout);
+}
+
+#[test]
+fn are_refused_for_a_list_of_themselves(rt: HostRuntime) {
+    let layout = read_hierarchy(rt.alloc(), H1.as_bytes()).expect(&rt, "a hierarchy");
+    let mut text = listed(rt.alloc(), 40000, 0).expect(&rt, "a text");
+    text.push_str("m,1,0,-,0,40001,read f:0\n")
+        .expect(&rt, "a text");
+    let error = TraceError::After { at: 40002 };
+    is_refused(&rt, rt.alloc(), &layout, text.as_str(), error);
+    drop(layout);
+}
+
 /// The text has to be refused so.
 fn is_refused<R: Abort + Threads + Sync>(
     rt: &R,
@@ -79,7 +143,7 @@ fn is_refused<R: Abort + Threads + Sync>(
     text: &str,
     error: TraceError,
 ) {
-    let refused = read_trace_by_threads(rt, alloc, layout, Version::V3, text.as_bytes()).err();
+    let refused = read_trace_by_threads(rt, alloc, layout, Version::V4, text.as_bytes()).err();
     assert!(rt; refused == Some(error), "{error:?}: {refused:?}");
 }
 

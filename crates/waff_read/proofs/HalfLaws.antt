@@ -2,12 +2,12 @@
 use Rattle.std.proofs.Common.{◌≡◌, ℕ, ◌+◌, ◌≤◌, List, [], ◌∷◌, ◌++◌, length, Bool, true, false, Option, Some, None, Result, Ok, Err, refl, sym, ap, subst, ◌∙◌, arith}
 use Rattle.std.specs.Prelude.{IfOk, IfSome, ◌-◌, ◌==◌, if◌then◌else◌}
 use Rattle.std.specs.Result.{result_ok}
-use Rattle.std.proofs.lemmas.List.{length-append}
 use Rattle.std.proofs.lemmas.List.Sums.{sum_by-append}
+use Rattle.waff_model.specs.Awaits.{awaited_in}
 use Rattle.waff_model.specs.Layout.{Space}
 use Rattle.waff_model.specs.Messages.{Arrivals, ops_in, sizes_of}
 use Rattle.waff_model.specs.Versions.{has_after, max_messages}
-use Rattle.waff_model.specs.declared.limits.TheConstants.{MAX_ALL_OPS}
+use Rattle.waff_model.specs.declared.limits.TheConstants.{MAX_ALL_OPS, MAX_AWAITED}
 use Rattle.waff_model.specs.declared.message.Message.{Message}
 use Rattle.waff_model.specs.declared.message.Version.{Version}
 use Rattle.waff_parse.specs.Fields.{field_of}
@@ -15,8 +15,9 @@ use Rattle.waff_parse.specs.Refusals.{◌>>=◌, told}
 use Rattle.waff_parse.specs.Rows.{Record, is_text, records_of}
 use Rattle.waff_parse.specs.Stopping.{Gives}
 use Rattle.waff_parse.specs.declared.stop.Stop.{Stop}
+use Rattle.waff_read.specs.Laws.{IsAfter}
 use Rattle.waff_read.specs.Messages.{Columns, columns_of, columns_with, header_row, message_of, message_of_columns, message_of_row}
-use Rattle.waff_read.specs.Places.{first_place, most_ops, next_place}
+use Rattle.waff_read.specs.Places.{first_place, most_awaited, most_ops, next_place, place_at}
 use Rattle.waff_read.specs.Traces.{header_of, message_at, messages_at, trace_of, trace_of_records, Spells}
 use Rattle.waff_read.specs.TraceFaults.{at_record}
 use Rattle.waff_read.specs.declared.place.Place.{Place}
@@ -25,7 +26,7 @@ use Rattle.waff_read.specs.declared.trace_fault.TraceFault.{TraceFault}
 use Rattle.waff_read.specs.declared.trace_fault.TraceError.{TraceError}
 use Rattle.waff_read.proofs.ExactLaws.{columns-read, read-columns}
 use Rattle.waff_read.proofs.MessageLaws.{fits-most}
-use Rattle.waff_read.proofs.TraceLaws.{fits-message, is-ok, message_at-no-text, message_at-text, none_read, ops_in-cons, parts_of}
+use Rattle.waff_read.proofs.TraceLaws.{awaited_in-cons, fits-message, is-ok, message_at-no-text, message_at-text, none_read, ops_in-cons, parts_of}
 
 -- what is known of an answer is known of its value
 pub some-has : {A : Type 0} (P : A → Type 0) (o : Option A) (x : A) → o ≡ Some x → IfSome o P → P x
@@ -56,13 +57,18 @@ no_field version row columns none is = by (length row == length (header_row vers
         ap (λ (c : Columns). c.after) (sym same) ∙ rw none refl
     by false e = absurd (cc)
 
--- so a record is the same message at any place where neither it nor its operations are too many
-columns-anywhere : (version : Version) (spaces : List Space) (place to : Place) (columns : Columns) (message : Message) → columns.after ≡ None
+-- two places have the same number, so far as it counts: it does for lists alone
+abbrev HasNumberOf : Version → Place → Place → Type 0
+HasNumberOf version place to = has_after version ≡ true → place.at ≡ to.at
+
+-- so a record is the same message at any place of its number where neither it nor its operations nor its list are too many
+columns-anywhere : (version : Version) (spaces : List Space) (place to : Place) (row : Record) (columns : Columns) (message : Message)
+    → columns_of version row ≡ Some columns → HasNumberOf version place to
     → message_of_columns version spaces place columns ≡ Ok message → to.at ≤ max_messages version + 1 → length message.ops ≤ most_ops version to
+    → length message.after ≤ most_awaited to
     → message_of_columns version spaces to columns ≡ Ok message
-columns-anywhere version spaces place to columns message no_after h few room =
+columns-anywhere version spaces place to row columns message is numbered h few room free =
     let s = columns-read version spaces place columns message h in
-    let none : message.after ≡ [] = rw no_after at s.after in
     read-columns version spaces to columns message (record {
       named = s.named;
       name = s.name;
@@ -76,24 +82,32 @@ columns-anywhere version spaces place to columns message no_after h few room =
       release = s.release;
       client = s.client;
       think = s.think;
-      after = rw no_after none;
-      within_after = rw none (omega arith);
+      after = by (has_after version) refl s.after;
+      within_after = free;
     })
+  where
+    by : (b : Bool) → has_after version ≡ b → IsAfter (place.at - 1) columns.after message.after → IsAfter (to.at - 1) columns.after message.after
+    by true has list = subst (λ (at : ℕ). IsAfter (at - 1) columns.after message.after) (numbered has) list
+    by false none list =
+        let no = no_field version row columns none is in
+        rw no (rw no at list)
 
-module _ (version : Version) (none : has_after version ≡ false) (spaces : List Space) where
-  message-anywhere : (place to : Place) (row : Record) (message : Message)
+module _ (version : Version) (spaces : List Space) where
+  message-anywhere : (place to : Place) (row : Record) (message : Message) → HasNumberOf version place to
       → message_of version spaces place row ≡ Ok message → to.at ≤ max_messages version + 1 → length message.ops ≤ most_ops version to
+      → length message.after ≤ most_awaited to
       → message_of version spaces to row ≡ Ok message
-  message-anywhere place to row message h few room = by (columns_of version row) refl h
+  message-anywhere place to row message numbered h few room free = by (columns_of version row) refl h
     where
       by : (o : Option Columns) → columns_of version row ≡ o → message_of_row version spaces place o ≡ Ok message → message_of_row version spaces to o ≡ Ok message
       by None is e = absurd (cc e)
-      by (Some columns) is e = columns-anywhere version spaces place to columns message (no_field version row columns none is) e few room
+      by (Some columns) is e = columns-anywhere version spaces place to row columns message is numbered e few room free
 
-  record-anywhere : (place to : Place) (row : Record) (message : Message)
+  record-anywhere : (place to : Place) (row : Record) (message : Message) → HasNumberOf version place to
       → message_at version spaces place row ≡ Ok message → to.at ≤ max_messages version + 1 → to.ops + length message.ops ≤ MAX_ALL_OPS
+      → to.awaited + length message.after ≤ MAX_AWAITED
       → message_at version spaces to row ≡ Ok message
-  record-anywhere place to row message h few room =
+  record-anywhere place to row message numbered h few room free =
       let fits = fits-message version spaces place row message h in
       by (fits-most version to (length message.ops) fits.within.within_ops room) (is_text row) refl
     where
@@ -104,41 +118,57 @@ module _ (version : Version) (none : has_after version ≡ false) (spaces : List
       by : length message.ops ≤ most_ops version to → (b : Bool) → is_text row ≡ b → message_at version spaces to row ≡ Ok message
       by most true t =
           let read = untold (message_of version spaces place row) (sym (message_at-text version spaces place row t) ∙ h) in
-          message_at-text version spaces to row t ∙ rw (message-anywhere place to row message read few most) refl
+          message_at-text version spaces to row t ∙ rw (message-anywhere place to row message numbered read few most (omega (arith, free))) refl
       by most false t = absurd (cc (sym (message_at-no-text version spaces place row t) ∙ h))
 
   -- so are records in a row
-  records-anywhere : (place to : Place) (rows : List Record) (messages : List Message)
+  records-anywhere : (place to : Place) (rows : List Record) (messages : List Message) → HasNumberOf version place to
       → messages_at version spaces place rows ≡ Ok messages → to.at + length messages ≤ max_messages version + 2 → to.ops + ops_in messages ≤ MAX_ALL_OPS
+      → to.awaited + awaited_in messages ≤ MAX_AWAITED
       → messages_at version spaces to rows ≡ Ok messages
   unfolding messages_at
-  records-anywhere place to [] messages h few room = h
-  records-anywhere place to (row ∷ rows) messages h few room =
+  records-anywhere place to [] messages numbered h few room free = h
+  records-anywhere place to (row ∷ rows) messages numbered h few room free =
       let p = parts_of version spaces place row rows messages h in
       let few_parts : to.at + length (p.first ∷ p.others) ≤ max_messages version + 2 = subst (λ (all : List Message). to.at + length all ≤ max_messages version + 2) (sym p.is) few in
       let room_parts : to.ops + ops_in (p.first ∷ p.others) ≤ MAX_ALL_OPS = subst (λ (all : List Message). to.ops + ops_in all ≤ MAX_ALL_OPS) (sym p.is) room in
+      let free_parts : to.awaited + awaited_in (p.first ∷ p.others) ≤ MAX_AWAITED = subst (λ (all : List Message). to.awaited + awaited_in all ≤ MAX_AWAITED) (sym p.is) free in
       let sum = ops_in-cons p.first p.others in
-      let first = record-anywhere place to row p.first p.read (omega (arith, few_parts)) (omega (arith, room_parts, sum)) in
-      let others = records-anywhere (next_place place p.first) (next_place to p.first) rows p.others p.more (omega (arith, few_parts)) (omega (arith, room_parts, sum)) in
+      let lists = awaited_in-cons p.first p.others in
+      let first = record-anywhere place to row p.first numbered p.read (omega (arith, few_parts)) (omega (arith, room_parts, sum)) (omega (arith, free_parts, lists)) in
+      let others =
+      records-anywhere (next_place place p.first) (next_place to p.first) rows p.others (λ has. ap (λ (at : ℕ). at + 1) (numbered has)) p.more (omega (arith, few_parts))
+      (omega (arith, room_parts, sum)) (omega (arith, free_parts, lists)) in
       rw (first, others) (ap Ok p.is)
 
-  -- the messages of two parts, neither they nor their operations being too many, are those of the whole
-  messages-append : (place : Place) (xs ys : List Record) (ms ns : List Message)
-      → messages_at version spaces place xs ≡ Ok ms → messages_at version spaces first_place ys ≡ Ok ns
+  -- the messages of two parts, none of them and of their operations and lists being too many, are those of the whole, where the second was read for
+  -- the number that is behind the first
+  messages-append : (place from : Place) (xs ys : List Record) (ms ns : List Message)
+      → (has_after version ≡ true → from.at ≡ place.at + length ms)
+      → messages_at version spaces place xs ≡ Ok ms → messages_at version spaces from ys ≡ Ok ns
       → place.at + length ms + length ns ≤ max_messages version + 2 → place.ops + ops_in ms + ops_in ns ≤ MAX_ALL_OPS
+      → place.awaited + awaited_in ms + awaited_in ns ≤ MAX_AWAITED
       → messages_at version spaces place (xs ++ ys) ≡ Ok (ms ++ ns)
   unfolding messages_at
-  messages-append place [] ys ms ns h k few room =
+  messages-append place from [] ys ms ns behind h k few room free =
       let empty : [] ≡ ms = none_read version spaces place ms h in
       let few_none : place.at + length ns ≤ max_messages version + 2 = omega (arith, few) in
       let room_none : place.ops + ops_in ns ≤ MAX_ALL_OPS = omega (arith, room) in
-      rw (← empty) (records-anywhere first_place place ys ns k few_none room_none)
-  messages-append place (row ∷ xs) ys ms ns h k few room =
+      let free_none : place.awaited + awaited_in ns ≤ MAX_AWAITED = omega (arith, free) in
+      let here : HasNumberOf version from place = λ has. subst (λ (none : List Message). from.at ≡ place.at + length none) (sym empty) (behind has) ∙ omega arith in
+      rw (← empty) (records-anywhere from place ys ns here k few_none room_none free_none)
+  messages-append place from (row ∷ xs) ys ms ns behind h k few room free =
       let p = parts_of version spaces place row xs ms h in
       let few_parts : place.at + length (p.first ∷ p.others) + length ns ≤ max_messages version + 2 = subst (λ (all : List Message). place.at + length all + length ns ≤ max_messages version + 2) (sym p.is) few in
       let room_parts : place.ops + ops_in (p.first ∷ p.others) + ops_in ns ≤ MAX_ALL_OPS = subst (λ (all : List Message). place.ops + ops_in all + ops_in ns ≤ MAX_ALL_OPS) (sym p.is) room in
+      let free_parts : place.awaited + awaited_in (p.first ∷ p.others) + awaited_in ns ≤ MAX_AWAITED = subst (λ (all : List Message). place.awaited + awaited_in all + awaited_in ns ≤ MAX_AWAITED) (sym p.is) free in
       let sum = ops_in-cons p.first p.others in
-      let more = messages-append (next_place place p.first) xs ys p.others ns p.more k (omega (arith, few_parts)) (omega (arith, room_parts, sum)) in
+      let lists = awaited_in-cons p.first p.others in
+      let one_less : has_after version ≡ true → from.at ≡ place.at + 1 + length p.others =
+      λ has. subst (λ (all : List Message). from.at ≡ place.at + length all) (sym p.is) (behind has) ∙ omega arith in
+      let more =
+      messages-append (next_place place p.first) from xs ys p.others ns one_less p.more k (omega (arith, few_parts)) (omega (arith, room_parts, sum))
+      (omega (arith, free_parts, lists)) in
       rw (p.read, more) (ap (λ (l : List Message). Ok (l ++ ns)) p.is)
 
 -- the trace of a header alone, and messages behind it
@@ -174,23 +204,26 @@ trace-append newest spaces (header ∷ xs) ys trace ns h none k = by (header_of 
     by (Err e) p = absurd (cc (rw p at h))
 
 -- the messages of two parts of a text
-spells-append : (version : Version) (spaces : List Space) (text first second : List ℕ) (ms ns all : List Message) → has_after version ≡ false
+spells-append : (version : Version) (spaces : List Space) (at behind : ℕ) (text first second : List ℕ) (ms ns all : List Message)
     → records_of text ≡ records_of first ++ records_of second
-    → Spells version spaces first ms → Spells version spaces second ns → all ≡ ms ++ ns → length all ≤ max_messages version → ops_in all ≤ MAX_ALL_OPS
-    → Spells version spaces text all
-spells-append version spaces text first second ms ns all none parts h k both few room =
-    let short : length ms + length ns ≤ max_messages version = omega (arith, length-append ms ns, ap (λ (xs : List Message). length xs) both, few) in
+    → Spells version spaces at first ms → Spells version spaces behind second ns → (has_after version ≡ true → behind ≡ at + length ms)
+    → at + length ms + length ns ≤ max_messages version + 2 → all ≡ ms ++ ns → ops_in all ≤ MAX_ALL_OPS → awaited_in all ≤ MAX_AWAITED
+    → Spells version spaces at text all
+spells-append version spaces at behind text first second ms ns all parts h k number few both room free =
     let small : ops_in ms + ops_in ns ≤ MAX_ALL_OPS = omega (arith, sum_by-append (λ (m : Message). length m.ops) ms ns, ap ops_in both, room) in
-    rw (parts, both) (messages-append version none spaces first_place (records_of first) (records_of second) ms ns h k (omega (arith, short)) (omega (arith, small)))
+    let short : awaited_in ms + awaited_in ns ≤ MAX_AWAITED = omega (arith, sum_by-append (λ (m : Message). length m.after) ms ns, ap awaited_in both, free) in
+    rw (parts, both)
+    (messages-append version spaces (place_at at) (place_at behind) (records_of first) (records_of second) ms ns number h k few (omega (arith, small)) (omega (arith, short)))
 
-pub spells-both : (version : Version) (spaces : List Space) (text first second : List ℕ) (ms ns : List Message) (read : Option Messages) → has_after version ≡ false
+pub spells-both : (version : Version) (spaces : List Space) (at behind : ℕ) (text first second : List ℕ) (ms ns : List Message) (read : Option Messages)
     → records_of text ≡ records_of first ++ records_of second
-    → Spells version spaces first ms → Spells version spaces second ns
-    → IfSome read (λ all. all.list ≡ ms ++ ns) → IfSome read (λ all. length all.list ≤ max_messages version) → IfSome read (λ all. ops_in all.list ≤ MAX_ALL_OPS)
-    → IfSome read (λ all. Spells version spaces text all.list)
-spells-both version spaces text first second ms ns None none parts h k both few room = tt
-spells-both version spaces text first second ms ns (Some all) none parts h k both few room =
-    spells-append version spaces text first second ms ns all.list none parts h k both few room
+    → Spells version spaces at first ms → Spells version spaces behind second ns → (has_after version ≡ true → behind ≡ at + length ms)
+    → at + length ms + length ns ≤ max_messages version + 2
+    → IfSome read (λ all. all.list ≡ ms ++ ns) → IfSome read (λ all. ops_in all.list ≤ MAX_ALL_OPS) → IfSome read (λ all. awaited_in all.list ≤ MAX_AWAITED)
+    → IfSome read (λ all. Spells version spaces at text all.list)
+spells-both version spaces at behind text first second ms ns None parts h k number few both room free = tt
+spells-both version spaces at behind text first second ms ns (Some all) parts h k number few both room free =
+    spells-append version spaces at behind text first second ms ns all.list parts h k number few both room free
 
 -- a list of no length
 nothing : {A : Type 0} (xs : List A) → length xs ≡ 0 → xs ≡ []
@@ -200,7 +233,7 @@ nothing (x ∷ xs) h = absurd (omega (arith, h))
 -- the trace of a text whose header is read by itself
 pub trace-behind : (newest : Version) (spaces : List Space) (text first rows : List ℕ) (header : Arrivals) (ns : List Message)
     → records_of text ≡ records_of first ++ records_of rows
-    → trace_of newest spaces first ≡ Ok header → length header.messages ≡ 0 → Spells header.version spaces rows ns
+    → trace_of newest spaces first ≡ Ok header → length header.messages ≡ 0 → Spells header.version spaces 2 rows ns
     → trace_of newest spaces text ≡ Ok (record { version = header.version; sizes = sizes_of spaces; messages = ns })
 trace-behind newest spaces text first rows header ns parts h none k =
     rw parts (trace-append newest spaces (records_of first) (records_of rows) header ns h (nothing header.messages none) k)

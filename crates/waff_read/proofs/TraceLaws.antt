@@ -94,18 +94,18 @@ walk-error version spaces place front left others stop.Memory h = tt
 walk-error version spaces place front left others (stop.Fault e) h = rw (h.2, h.3) refl
 
 -- the messages so far are all, where no record is left
-pub whole-messages : (version : Version) (spaces : List Space) (place : Place) (front : List Message) (left all : List Record)
-    → left ≡ [] → with_front front (messages_at version spaces place left) ≡ messages_at version spaces first_place all
-    → messages_at version spaces first_place all ≡ Ok front
+pub whole-messages : (version : Version) (spaces : List Space) (place from : Place) (front : List Message) (left all : List Record)
+    → left ≡ [] → with_front front (messages_at version spaces place left) ≡ messages_at version spaces from all
+    → messages_at version spaces from all ≡ Ok front
 unfolding messages_at with_front
-whole-messages version spaces place front left all none whole = sym whole ∙ rw none (ap Ok (append-nil front))
+whole-messages version spaces place from front left all none whole = sym whole ∙ rw none (ap Ok (append-nil front))
 
 -- an error of a message is one of all
-pub error-messages : (version : Version) (spaces : List Space) (place : Place) (front : List Message) (left others all : List Record) (why : Stop TraceError)
+pub error-messages : (version : Version) (spaces : List Space) (place from : Place) (front : List Message) (left others all : List Record) (why : Stop TraceError)
     → GivesMessage version spaces place (Err why) left others
-    → with_front front (messages_at version spaces place left) ≡ messages_at version spaces first_place all
-    → Stops why (messages_at version spaces first_place all)
-error-messages version spaces place front left others all why h whole =
+    → with_front front (messages_at version spaces place left) ≡ messages_at version spaces from all
+    → Stops why (messages_at version spaces from all)
+error-messages version spaces place from front left others all why h whole =
     rw whole at (walk-error version spaces place front left others why h)
 
 -- a message that is read is within the limits, and not one too many
@@ -256,3 +256,10 @@ behind-ops place [] = omega arith
 behind-ops place (first ∷ more) =
     let rest = behind-ops (next_place place first) more in
     rest ∙ omega (arith, ops_in-cons first more)
+
+pub behind-awaited : (place : Place) (messages : List Message) → (behind place messages).awaited ≡ place.awaited + awaited_in messages
+unfolding behind
+behind-awaited place [] = omega arith
+behind-awaited place (first ∷ more) =
+    let rest = behind-awaited (next_place place first) more in
+    rest ∙ omega (arith, awaited_in-cons first more)

@@ -6,9 +6,13 @@ use Rattle.waff_model.specs.declared.message.Message.{Message}
 use Rattle.waff_model.specs.declared.message.Version.{Version}
 use Rattle.waff_read.specs.declared.place.Place.{Place}
 
--- the place behind the header: record 2, and before it no operation and no message that is awaited
+-- the place of the record of this number, before which no operation and no message that is awaited counts
+abbrev pub place_at : ℕ → Place
+place_at at = record { at = at; ops = 0; awaited = 0 }
+
+-- the place behind the header, which is record 1
 abbrev pub first_place : Place
-first_place = record { at = 2; ops = 0; awaited = 0 }
+first_place = place_at 2
 
 -- the place behind the record of a message
 abbrev pub next_place : Place → Message → Place

@@ -10,7 +10,7 @@ use Rattle.waff_parse.specs.Rows.{Record, is_text, records_of}
 use Rattle.waff_parse.specs.declared.stop.Stop.{Stop}
 use Rattle.waff_parse.specs.declared.stop.Stop.TheVariants as stop
 use Rattle.waff_read.specs.Messages.{message_of, version_of}
-use Rattle.waff_read.specs.Places.{first_place, next_place}
+use Rattle.waff_read.specs.Places.{first_place, next_place, place_at}
 use Rattle.waff_read.specs.TraceFaults.{at_record}
 use Rattle.waff_read.specs.declared.place.Place.{Place}
 use Rattle.waff_read.specs.declared.trace_fault.TraceFault.TheVariants as fault
@@ -38,10 +38,10 @@ messages_at version spaces place (row ∷ rows) = do
   messages ← messages_at version spaces (next_place place message) rows
   Ok (message ∷ messages)
 
--- text spells these messages, a record each, behind a header
-abbrev pub Spells : Version → List Space → List ℕ → List Message → Type 0
-Spells version spaces text messages =
-    messages_at version spaces first_place (records_of text) ≡ Ok messages
+-- text spells these messages, a record each, the first of which has this number
+abbrev pub Spells : Version → List Space → ℕ → List ℕ → List Message → Type 0
+Spells version spaces at text messages =
+    messages_at version spaces (place_at at) (records_of text) ≡ Ok messages
 
 -- the trace of records after the header
 abbrev pub trace_of_rows : Version → List Space → List Record → Result Arrivals TraceError

@@ -8,7 +8,7 @@
 //!   (its operations), `op` (one operation), `range` (an operation on cells in a row) and
 //!   `space_table` (the spaces by name); `trace_fault` has what it refuses. `halves`, over `lines`
 //!   (a text cut between its records) and `plain` (records without quotes): the same for long
-//!   traces, by several threads where no message has a list.
+//!   traces, by several threads.
 //! - `laws`: what holds of all files that are accepted or refused; `limit_laws`: that what is read
 //!   is within the limits.
 //!

@@ -8,6 +8,9 @@ ghost use Rattle.waff_read.specs.Places as places;
 use waff_model::limits::{MAX_ALL_OPS, MAX_AWAITED};
 use waff_model::{Message, Version};
 
+/// The number of the record of the first message, behind the header.
+pub(crate) const FIRST: u64 = 2;
+
 /// The place of a message's record: its number, the header's being 1, how many operations the
 /// messages before it have, and how many messages their lists.
 #[derive(Clone, Copy)]
@@ -18,12 +21,12 @@ pub(crate) struct Place {
 }
 
 impl Place {
-    /// The place behind the header.
-    pub(crate) fn first() -> Place
-        ensures { result ≡ places.first_place }
+    /// The place of the record of this number, before which nothing counts.
+    pub(crate) fn at(at: u64) -> Place
+        ensures { result ≡ places.place_at at }
     {
         Place {
-            at: 2,
+            at,
             ops: 0,
             awaited: 0,
         }

@@ -1,6 +1,7 @@
 //! Texts of records without quotes, which are read without the CSV reader.
 
 ghost use Rattle.std.specs.Prelude.{◌≡◌, ◌<◌, IfSome, Ok, Some, option_map};
+ghost use Rattle.waff_model.specs.Awaits.{awaited_in};
 ghost use Rattle.waff_model.specs.Messages.{ops_in};
 ghost use Rattle.waff_read.specs.Plain as plain;
 ghost use Rattle.waff_read.specs.Traces as traces;
@@ -87,17 +88,19 @@ fn next_plain<'a>(
     Some((message, rest))
 }
 
-/// The messages of a text of records without quotes; none where one has quotes, is refused or does
-/// not end with a line feed.
+/// The messages of a text of records without quotes, the first of which has this number; none where
+/// one has quotes, is refused or does not end with a line feed.
 pub(crate) fn read_plain(
     alloc: Global,
     spaces: &SpaceTable<'_>,
     version: Version,
+    at: u64,
     bytes: &[u8],
 ) -> Option<Messages>
     ensures messages { IfSome result (λ read.
-        traces.Spells version spaces.now bytes.now read.list) }
+        traces.Spells version spaces.now at bytes.now read.list) }
     ensures ops { IfSome result (λ read. read.ops ≡ ops_in read.list) }
+    ensures awaited { IfSome result (λ read. read.awaited ≡ awaited_in read.list) }
 {
     if begins_as_mark(bytes) || memchr2(b'"', b'\r', bytes).is_some() {
         return None;
@@ -106,7 +109,7 @@ pub(crate) fn read_plain(
         return None;
     };
     let mut list = Vec::new(alloc);
-    let mut place = Place::first();
+    let mut place = Place::at(at);
     while !rest.is_empty() {
         let (message, others) = next_plain(alloc, spaces, version, place, rest)?;
         place = place.next(&message);
@@ -116,5 +119,6 @@ pub(crate) fn read_plain(
     Some(Messages {
         list: Parts::of(alloc, list),
         ops: place.ops,
+        awaited: place.awaited,
     })
 }

@@ -1,16 +1,17 @@
 //! The reader of traces.
 
 ghost use Rattle.std.specs.Prelude.{◌≡◌, Ok, Err, drop, IfOk, OnOk};
+ghost use Rattle.waff_model.specs.Awaits.{awaited_in};
 ghost use Rattle.waff_model.specs.Messages.{ops_in, sizes_of};
 ghost use Rattle.waff_model.specs.declared.message.Version.TheVariants.{V4};
 ghost use Rattle.waff_parse.specs.Rows.{Reads, records_left};
 ghost use Rattle.waff_parse.specs.Stopping.{Gives};
-ghost use Rattle.waff_read.specs.Places.{first_place};
+ghost use Rattle.waff_read.specs.Places.{place_at};
 ghost use Rattle.waff_read.specs.Traces as traces;
 
 use crate::columns::read_version;
 use crate::message::read_message;
-use crate::place::Place;
+use crate::place::{FIRST, Place};
 use crate::space_table::SpaceTable;
 use crate::trace_fault::{TraceError, TraceFault};
 use csv::{Reader, StringRecord};
@@ -67,28 +68,31 @@ fn next_message(
     }
 }
 
-/// Messages that were read, and how many operations they have.
+/// Messages that were read, how many operations they have, and how many messages their lists.
 #[derive(Drop)]
 pub(crate) struct Messages {
     pub(crate) list: Parts,
     pub(crate) ops: usize,
+    pub(crate) awaited: usize,
 }
 
-/// The messages of the records that are left, behind a header.
+/// The messages of the records that are left, the first of which has this number.
 pub(crate) fn read_messages(
     alloc: Global,
     spaces: &SpaceTable<'_>,
     version: Version,
+    at: u64,
     rdr: &mut Reader<&[u8]>,
     row: &mut StringRecord,
 ) -> Result<Messages, Stop<TraceError>>
     requires { Reads rdr.old }
     ensures messages { Gives (λ read. read.list) result
-        (traces.messages_at version spaces.now first_place (records_left rdr.old)) }
+        (traces.messages_at version spaces.now (place_at at) (records_left rdr.old)) }
     ensures ops { IfOk result (λ read. read.ops ≡ ops_in read.list) }
+    ensures awaited { IfOk result (λ read. read.awaited ≡ awaited_in read.list) }
 {
     let mut list = Vec::new(alloc);
-    let mut place = Place::first();
+    let mut place = Place::at(at);
     while let Some(message) = next_message(alloc, spaces, version, place, rdr, row)? {
         place = place.next(&message);
         list.push(message)?;
@@ -96,6 +100,7 @@ pub(crate) fn read_messages(
     Ok(Messages {
         list: Parts::of(alloc, list),
         ops: place.ops,
+        awaited: place.awaited,
     })
 }
 
@@ -113,7 +118,7 @@ fn read_records(
         trace) result (traces.trace_of_records newest spaces.now (records_left rdr.old)) }
 {
     let version = read_header(newest, rdr, row)?;
-    let messages = read_messages(alloc, spaces, version, rdr, row)?;
+    let messages = read_messages(alloc, spaces, version, FIRST, rdr, row)?;
     let trace = Trace::of_messages(alloc, spaces.layout(), version, messages.list)?;
     Ok(trace)
 }

@@ -4,9 +4,9 @@ use Rattle.std.proofs.lemmas.Result.{err_from_is_err_and}
 use Rattle.waff_model.proofs.TraceLemmas.{max_messages-most}
 use Rattle.waff_parse.specs.Rows.{records_left}
 use Rattle.waff_parse.proofs.Laws.{with_front-nil}
-use Rattle.waff_read.specs.Places.{behind, first_place, next_place}
+use Rattle.waff_read.specs.Places.{behind, next_place, place_at}
 use Rattle.waff_read.specs.declared.place.Place.{Place}
-use Rattle.waff_read.proofs.TraceLaws.{behind-ops, behind-push, error-messages, next-fits, walk-message, whole-messages}
+use Rattle.waff_read.proofs.TraceLaws.{behind-awaited, behind-ops, behind-push, error-messages, next-fits, walk-message, whole-messages}
 use Rattle.waff_read.proofs.trace.read_messages.Goals as goal
 
 pub loop-list-init : goal.loop-list-init
@@ -14,15 +14,15 @@ unfolding behind
 loop-list-init c =
     let none = c.new-list.ensures.items in record {
       reads = c.requires;
-      place = rw (none, c.first-place.ensures) refl;
-      awaited = rw c.first-place.ensures (omega arith);
-      messages = rw (none, c.first-place.ensures) (with_front-nil _);
+      place = rw (none, c.at-place.ensures) refl;
+      awaited = rw c.at-place.ensures (omega arith);
+      messages = rw (none, c.at-place.ensures) (with_front-nil _);
     }
 
 pub returns-in_err-message-clause-messages : goal.returns-in_err-message-clause-messages
 returns-in_err-message-clause-messages c =
     let p = err_from_is_err_and c.from_residual.result c.from_residual.ensures.1 in
-    rw (p.1, p.2) (error-messages c.args.version c.args.spaces.now c.loop-list.place c.loop-list.list.items (records_left c.loop-list.rdr) (records_left c.next_message.new.rdr) (records_left c.args.rdr.now) c.in_err-message.field-0.0
+    rw (p.1, p.2) (error-messages c.args.version c.args.spaces.now c.loop-list.place (place_at c.args.at) c.loop-list.list.items (records_left c.loop-list.rdr) (records_left c.next_message.new.rdr) (records_left c.args.rdr.now) c.in_err-message.field-0.0
     c.in_err-message.ensures.message c.loop-list.invariant.messages)
 
 pub next-place-requires-clause-at : goal.next-place-requires-clause-at
@@ -52,7 +52,7 @@ loop-list-preserved c =
       reads = c.in_ok-message.ensures.reads;
       place = rw pushed
           (c.next-place.ensures ∙ ap (λ (p : Place). next_place p c.in-Some.message) before.place
-          ∙ sym (behind-push first_place c.loop-list.list.items c.in-Some.message));
+          ∙ sym (behind-push (place_at c.args.at) c.loop-list.list.items c.in-Some.message));
       awaited = rw c.next-place.ensures (omega (arith, fits.after.few, before.awaited));
       messages = rw (pushed, c.next-place.ensures)
           (walk-message c.args.version c.args.spaces.now c.loop-list.place c.loop-list.list.items (records_left c.loop-list.rdr) (records_left c.next_message.new.rdr) c.in-Some.message given ∙ before.messages);
@@ -61,10 +61,15 @@ loop-list-preserved c =
 pub returns-clause-messages : goal.returns-clause-messages
 returns-clause-messages c =
     let none = rw c.in_default.is at c.in_ok-message.ensures.message in
-    rw c.of.ensures (whole-messages c.args.version c.args.spaces.now c.loop-list.place c.loop-list.list.items (records_left c.loop-list.rdr) (records_left c.args.rdr.now)
+    rw c.of.ensures (whole-messages c.args.version c.args.spaces.now c.loop-list.place (place_at c.args.at) c.loop-list.list.items (records_left c.loop-list.rdr) (records_left c.args.rdr.now)
     none c.loop-list.invariant.messages)
 
 pub returns-clause-ops : goal.returns-clause-ops
 returns-clause-ops c =
     let here = ap (λ (p : Place). p.ops) c.loop-list.invariant.place in
-    rw c.of.ensures (omega (arith, here, behind-ops first_place c.loop-list.list.items))
+    rw c.of.ensures (omega (arith, here, behind-ops (place_at c.args.at) c.loop-list.list.items))
+
+pub returns-clause-awaited : goal.returns-clause-awaited
+returns-clause-awaited c =
+    let here = ap (λ (p : Place). p.awaited) c.loop-list.invariant.place in
+    rw c.of.ensures (omega (arith, here, behind-awaited (place_at c.args.at) c.loop-list.list.items))
