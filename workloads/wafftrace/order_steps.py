@@ -18,11 +18,13 @@ KILLS = frozenset(("kill", "tgkill", "tkill"))
 FORKS = frozenset(("clone", "clone3", "vfork", "fork"))
 EXITS = frozenset(("exit", "exit_group"))
 OTHERS = frozenset((
-    "fcntl", "flock", "futex", "execve", "connect", "accept", "accept4", "splice", "sendfile", "close", "dup2", "dup3",
+    "fcntl", "flock", "futex", "execve", "connect", "accept", "accept4", "splice", "sendfile", "close", "dup2", "dup3", "eventfd", "eventfd2",
 ))
 # The calls that order threads.
 CALLS = READS | WRITES | POLLS | SLEEPS | WAITS | KILLS | FORKS | EXITS | OTHERS
 
+# What strace shows of descriptors whose bytes are numbers, which count.
+OF_NUMBERS = ("signalfd", "eventfd")
 DESCRIPTOR = re.compile(r"\(?(\d{1,10})(?!\d)(?:<((?:->|[^<>])*)>)?")
 # What counts of the words of these is the descriptor that stands first, and of those all.
 OF_DESCRIPTORS = READS | WRITES | {"accept", "accept4"}
@@ -40,19 +42,19 @@ class Whose(NamedTuple):
 
 class Asked(NamedTuple):
     """A call (or the end of a thread, `+++`, or a signal, `---`): its name, what it asked and answered, and what stands behind the answer.
-    `count` is the number that it ended with, 0 where it is none: of bytes, or of threads that it woke."""
+    `amount` is the number that it ended with, 0 where it is none: of bytes, or of threads that it woke."""
 
     name: str
     args: str
     result: str
     tail: str
     has_failed: bool
-    count: int
+    amount: int
 
 
 def asked_of(name: str, args: str, result: str, tail: str) -> Asked:
-    count = int(result) if result.isdecimal() and len(result) < 20 else 0
-    return Asked(name, args, result, tail, result == "?" or result.startswith("-"), count)
+    amount = int(result) if result.isdecimal() and len(result) < 20 else 0
+    return Asked(name, args, result, tail, result == "?" or result.startswith("-"), amount)
 
 
 class Step(NamedTuple):
@@ -96,7 +98,7 @@ def what_counts(name: str, args: str) -> str:
     found = DESCRIPTOR.match(args) if name in OF_DESCRIPTORS else None
     if found is None:
         return ""
-    return args if found[2] and "signalfd" in found[2] else found[0]
+    return args if found[2] and any(it in found[2] for it in OF_NUMBERS) else found[0]
 
 
 class Steps:
