@@ -78,6 +78,8 @@ class Birth(NamedTuple):
 
 
 NO_REQUESTS = range(0)
+# What stands behind a call that strace was told to delay.
+DELAYED = "(DELAYED)"
 # Behind all places of a log.
 LAST = 1 << 62, 0, 0
 # What Steps.in_order tells of: a birth, or of a step the beginning, the end, or both at once.
@@ -113,11 +115,15 @@ class Steps:
         self.requests: list[range] = []
         # The same calls come often.
         self.alike: dict[tuple[str, str, str, str], Asked] = {}
+        self.is_delayed = False
 
     def add(self, whose: Whose, begun: int, ended: int, time: int, end: int, words: tuple[str, str, str, str], requests: range) -> None:
+        """Adds a call that has returned: the places and times of its beginning and its end, its name, what counts of its arguments, its result
+        and what stands behind that, and the requests that it made."""
         asked = self.alike.get(words)
         if asked is None:
             asked = self.alike[words] = asked_of(*words)
+            self.is_delayed = self.is_delayed or DELAYED in asked.tail
         self.whose.append(whose)
         self.asked.append(asked)
         self.requests.append(requests or NO_REQUESTS)

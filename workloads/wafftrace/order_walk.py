@@ -7,11 +7,12 @@ import signal
 from bisect import bisect_right
 from collections.abc import Callable, Sequence
 from dataclasses import dataclass, field
+from typing import NamedTuple
 
 from .logs import Request
 from .order_frontier import START, Frontiers, Point, Thread
 from .order_locks import BEHIND, Holder, Key, Locks, Range
-from .order_steps import BEGIN, END, EXITS, FORKS, KILLS, POLLS, READS, SLEEPS, WAITS, WRITES, Birth, Step, Steps, descriptor_of
+from .order_steps import BEGIN, END, EXITS, FORKS, KILLS, POLLS, READS, SLEEPS, WAITS, WRITES, Birth, Step, Steps, Whose, descriptor_of
 from .order_streams import ALONE, Channel, Streams, channel_of
 
 # Why one waits for another, by the words of `--order`.
@@ -247,14 +248,14 @@ class Walk:
             self.streams.close(channel, point)
 
     def wake(self, thread: Thread, step: Step, point: Point) -> None:
-        found = FUTEX.match(step.asked.args)
+        found = futex_of(step.asked.args)
         if found is None:
             return
-        key = futex_of(step, found)
-        if found[2].startswith("FUTEX_WAIT") and "BITSET" not in found[2] and found[4] != CONTENDED:
+        key = found.key(step.whose)
+        if found.waits and not found.is_bitset and found.value != CONTENDED:
             self.arrived[key][thread.name] = point
-        elif found[2].startswith("FUTEX_WAKE") and step.asked.result.isdecimal():
-            if found[4] == EVERYBODY and self.arrived[key]:
+        elif found.wakes and step.asked.result.isdecimal():
+            if found.value == EVERYBODY and self.arrived[key]:
                 # The last one at a barrier comes after all that wait there.
                 for it in self.arrived.pop(key).values():
                     self.join(thread, it, 0, "futex")
@@ -394,18 +395,17 @@ class Walk:
         return True
 
     def futex(self, thread: Thread, step: Step) -> bool:
-        found = FUTEX.match(step.asked.args)
-        if found is None or not found[2].startswith("FUTEX_WAIT"):
+        found = futex_of(step.asked.args)
+        if found is None or not found.waits:
             return False
-        value, is_bitset = found[4] or "", "BITSET" in found[2]
-        ended = self.exits.get(self.called(step.whose.box, value)) if is_bitset else None
+        ended = self.exits.get(self.called(step.whose.box, found.value)) if found.is_bitset else None
         if ended is not None:
             return self.wait_for(thread, step, [ended], "futex")
         if step.asked.has_failed and "EAGAIN" not in step.asked.tail:
             return False
-        key = futex_of(step, found)
+        key = found.key(step.whose)
         self.arrived[key].pop(thread.name, None)
-        if value == CONTENDED and not is_bitset:
+        if found.value == CONTENDED and not found.is_bitset:
             return key in self.mutexes and self.wait_for(thread, step, [self.mutexes[key]], "futex")
         woken = self.woken(thread, step, key)
         return woken is not None and self.wait_for(thread, step, [woken], "futex")
@@ -534,9 +534,29 @@ def range_of(args: str) -> tuple[Range, str]:
     return Range(first, min(first + length, BEHIND) if length else BEHIND), found[1]
 
 
-def futex_of(step: Step, found: re.Match[str]) -> tuple[str, str]:
-    """Where a futex is: an address of a process, or of all that share it."""
-    return step.whose.process if "PRIVATE" in found[2] + found[3] else step.whose.box, found[1]
+class Futex(NamedTuple):
+    """What a call on a futex asks for: its address, which a process has alone or shares, and the value behind that."""
+
+    address: str
+    waits: bool
+    wakes: bool
+    is_bitset: bool
+    is_private: bool
+    value: str
+
+    def key(self, whose: Whose) -> tuple[str, str]:
+        """Where the futex is: an address of a process, or of all that share it."""
+        return whose.process if self.is_private else whose.box, self.address
+
+
+@functools.lru_cache(maxsize=1 << 14)
+def futex_of(args: str) -> Futex | None:
+    found = FUTEX.match(args)
+    if found is None:
+        return None
+    address, what, flags, value = found.groups("")
+    waits, wakes = what.startswith("FUTEX_WAIT"), what.startswith("FUTEX_WAKE")
+    return Futex(address, waits, wakes, "BITSET" in what, "PRIVATE" in what + flags, value)
 
 
 # What is done at the beginning of a call, and at its end: True where it says what became of its time.
