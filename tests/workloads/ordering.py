@@ -2,11 +2,14 @@
 
 import csv
 import pathlib
+import random
 import re
+from collections.abc import Callable, Iterator, Sequence
 
 import orders
 from calling import GOOD, HERE, PLAIN, WITH_LISTS, called, check, run, same, text, waff
 from wafftrace import limits, lists
+from wafftrace.order_frontier import Entry, Frontiers
 
 # The fields of messages; and whose each is, and when it is issued.
 Rows = list[list[str]]
@@ -18,7 +21,8 @@ WORLDS = 60
 
 # Why messages of the small logs wait for others.
 KINDS_OF = {
-    "children": {"fork", "wait"}, "flock": {"lock"}, "futex-condition": {"futex"}, "futex-mutex": {"futex"}, "join": {"futex"},
+    "barrier": {"futex"}, "children": {"fork", "wait"}, "eventfd": {"pipe"}, "flock": {"lock"}, "futex-condition": {"futex"},
+    "futex-mutex": {"futex"}, "join": {"futex"},
     "lock-far": {"lock"}, "lock-readers": {"lock"}, "lock-retry": {"lock"}, "lock-wait": {"lock"}, "names": {"name"}, "pipe": {"pipe"},
     "pipe-full": {"pipe"}, "reduced": {"pipe"}, "signal": {"signal"}, "socket": {"socket"}, "tcp": {"socket"}, "vfork": {"fork"},
 }
@@ -54,11 +58,11 @@ def ordered(scratch: pathlib.Path) -> None:
         check(f"order {log.stem}: edges", kinds and int(kinds[1]) == pieces == sum(map(int, counts.values())), told)
         same(f"order {log.stem}", found, text(log.with_suffix(".csv")))
     for number in range(WORLDS):
-        log = orders.log(number)
-        wanted = as_recorded(log)
+        world = orders.log(number)
+        wanted = as_recorded(world)
         if not wanted:
             continue
-        (scratch / "log").write_text(log)
+        (scratch / "log").write_text(world)
         found, told = called("strace", scratch / "log", *"--cost latency --blocks none --cwd /v".split())
         rows = [line.split(",", 6) for line in found.splitlines()]
         check(f"order, log {number}: messages", len(rows) == len(wanted) + 1 and ",".join(rows[0]) + "\n" == WITH_LISTS, told)
@@ -93,6 +97,75 @@ def threaded(scratch: pathlib.Path) -> None:
         check(f"threads, log {number}: none is early", len(rows) == len(recorded) and soonest, found + told)
         own = [row for row in rows for piece, _ in lists.pieces_of(row[5]) if rows[piece - 1][3] == row[3]]
         check(f"threads, log {number}: lists name others", not own, own)
+
+
+# With latencies as costs, and ticks in which the times of a log are whole numbers.
+AS_RECORDED = "--cost latency --blocks none --tick 1".split()
+
+
+def laws(scratch: pathlib.Path) -> None:
+    """What holds for each log, random and recorded ones. Lists without what others make needless have the finishes of those with it, whatever
+    messages cost. Where costs are the latencies, none is issued later than it was in the log. As many run at once by clients and order as
+    between all behind what had finished before, and clients alone."""
+    dice, recorded = random.Random(1), HERE / "order" / "recorded"
+    cases = [(log, ["--cwd", "/srv/rec", "--under", f"/srv/rec/w_{log.name.split('.')[0]}"]) for log in sorted(recorded.glob("*.strace.gz"))]
+    for number in range(WORLDS):
+        log = scratch / f"world-{number}"
+        log.write_text(orders.log(number))
+        cases += [(log, ["--cwd", "/v"])] if as_recorded(log.read_text()) else []
+    saved = 0
+    for log, words in cases:
+        name, given = f"law, {log.name}", ["strace", log, *words, *AS_RECORDED]
+        found, told = called(*given)
+        rows, raw = rows_of(found), rows_of(unreduced(given))
+        saved += sum(len(it[5]) for it in raw) - sum(len(it[5]) for it in rows)
+        for _ in range(3):
+            costs = [dice.choice((1, dice.randrange(1, 50), dice.randrange(1, 100_000))) for _ in rows]
+            check(f"{name}: reduced lists", finishes(rows, costs) == finishes(raw, costs), told)
+        early = [row for row, late in lateness(given, rows) if late > 0]
+        check(f"{name}: none is late", not early, early[:3])
+        if len({row[3] for row in rows}) == 1:
+            continue
+        figures = re.search(r"at once (\S+) times in parallel by clients and order, (\S+) by clients alone, (\S+) if all comes behind", told)
+        between = [float(it) for it in figures.groups()] if figures else [0.0, -1.0, 1.0]
+        check(f"{name}: the bracket", between[2] <= between[0] <= between[1], told)
+    check("law: some pieces are needless", saved > 0)
+
+
+def unreduced(given: Sequence[object]) -> str:
+    """The trace of an import whose lists keep what others make needless."""
+
+    def all_of(_frontiers: Frontiers, _name: str, _own: Entry | None, others: list[tuple[str, int, int]]) -> list[Entry]:
+        return sorted((number, gap) for _, number, gap in others)
+
+    kept = Frontiers.reduced
+    setattr(Frontiers, "reduced", all_of)
+    try:
+        return called(*given)[0]
+    finally:
+        setattr(Frontiers, "reduced", kept)
+
+
+def rows_of(trace: str) -> Rows:
+    return [line.split(",", 6) for line in trace.splitlines()[1:]]
+
+
+def finishes(rows: Rows, costs: Sequence[int]) -> list[int]:
+    """When each message finishes at these costs, if nothing excludes anything."""
+    found = lists.Issues()
+    return [found.next(cost, int(row[2]), row[3], int(row[4]), row[5]) + cost for row, cost in zip(rows, costs, strict=True)]
+
+
+def lateness(given: Sequence[object], rows: Rows) -> Iterator[tuple[list[str], int]]:
+    """Each message, and by how much it is issued later than in the log. There its client asks, whoever waits for whom, when an open loop has it; what
+    takes or gives back blocks comes behind its request."""
+    times: dict[str, list[int]] = {}
+    for row in rows_of(called(*given, "--loop", "open")[0]):
+        times.setdefault(row[3], []).append(int(row[2]))
+    for row, (client, issue) in zip(rows, issued(rows), strict=True):
+        time = times[client].pop(0)
+        if row[0] not in ("alloc", "free"):
+            yield row, issue - time
 
 
 def too_many(_scratch: pathlib.Path) -> None:
@@ -140,7 +213,8 @@ def kept_by_words(scratch: pathlib.Path, number: int, rows: Rows, wanted: Issued
     """What the words that change a trace make of one with lists."""
     name = f"order, log {number}"
     pieces = [lists.pieces_of(row[5]) for row in rows]
-    for words, gap in (("--at-once", lambda it: 0), ("--speed 2", lambda it: it // 2)):
+    paces: dict[str, Callable[[int], int]] = {"--at-once": lambda it: 0, "--speed 2": lambda it: it // 2}
+    for words, gap in paces.items():
         found, told = called("pace", scratch / "trace.csv", *words.split())
         paced = [lists.pieces_of(line.split(",", 6)[5]) for line in found.splitlines()[1:]]
         check(f"{name}: pace {words}", paced == [[(it, gap(behind)) for it, behind in every] for every in pieces], found + told)

@@ -414,15 +414,12 @@ class Messages:
 
     def of_request(self, it: Request, release: int, think: int) -> int:
         """The messages of a request. Answers what it costs."""
-        took = it.took if self.measured else None
         if not isinstance(it, Data):
-            cost = self.price(it.name, 0, took) if it.ops else 0
-            self.meta(it, release, think)
-            return cost
+            return self.meta(it, release, think)
         self.number += 1
         head = self.heads[it.kind].get(it.place) or self.head(it.kind, it.place)
         at = it.place.base + it.offset
-        cost = self.price(it.name, it.length, took)
+        cost = self.price(it.name, it.length, it.took if self.measured else None)
         self.data(it, release, think, cost, head, at // self.cell, (at + it.length - 1) // self.cell)
         return cost
 
@@ -531,14 +528,14 @@ class Messages:
         ]
         return max(1, cost - share), lines
 
-    def meta(self, it: Meta, release: int, think: int) -> None:
-        """The messages of a request that moves no data; one that does nothing has none."""
+    def meta(self, it: Meta, release: int, think: int) -> int:
+        """The messages of a request that moves no data; one that does nothing has none. Answers what it costs."""
         if not it.ops:
-            return
+            return 0
         self.number += 1
         self.release, self.think, self.client = release, think, it.client
         took = it.took if self.measured else None
-        cost = self.price(it.name, 0, took)
+        whole = cost = self.price(it.name, 0, took)
         after: list[Line] = []
         if it.blocks and self.options.blocks != "none":
             runs = []
@@ -556,6 +553,7 @@ class Messages:
         self.count += len(words)
         for line in [(it.name, cost, ";".join(words)), *after]:
             self.line(*line)
+        return whole
 
 
 def trace_text(messages: Messages) -> str:

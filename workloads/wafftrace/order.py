@@ -18,8 +18,6 @@ from .processes import Who
 
 # What `--order` is without this word, where there are clients in a closed loop.
 USUAL = "all"
-# What stands behind a call that strace was told to delay.
-DELAYED = "(DELAYED)"
 
 
 def kinds_of(word: str) -> frozenset[str]:
@@ -43,7 +41,6 @@ class Record:
         self.whose: dict[str, Whose] = {}
         # The paths of named pipes.
         self.fifos: set[str] = set()
-        self.is_delayed = False
 
     def of(self, who: Who, number: str, box: str) -> Whose:
         """Whose a call is. A thread has the number that it was seen with first."""
@@ -51,13 +48,6 @@ class Record:
         if found is None:
             found = self.whose[who.thread] = Whose(who.thread, number, who.process, box)
         return found
-
-    def call(self, whose: Whose, begun: int, ended: int, time: int, end: int, words: tuple[str, str, str, str], requests: range) -> None:
-        """A call that has returned: the places and times of its beginning and its end, its name, what counts of its arguments, its result
-        and what stands behind that, and the requests that it made."""
-        self.steps.add(whose, begun, ended, time, end, words, requests)
-        if DELAYED in words[3]:
-            self.is_delayed = True
 
     def line(self, whose: Whose, at: int, time: int, text: str) -> None:
         """A signal, or the end of a thread."""
@@ -80,7 +70,7 @@ class Record:
         for place, made in zip(self.steps.begun, self.steps.requests, strict=True):
             for number in made:
                 begun[number] = place
-        return Order(requests, walk.frontiers, begun, walk.tally, self.is_delayed)
+        return Order(requests, walk.frontiers, begun, walk.tally, self.steps.is_delayed)
 
 
 @dataclass(slots=True)

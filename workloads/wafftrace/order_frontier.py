@@ -189,8 +189,10 @@ class Frontiers:
             known[name] = before, think - now
         self.since[number], self.base[number], self.known[number] = now, number, known
         for via, gap, _ in self.after[number]:
-            more = gap - now
-            keep_latest(known, {self.whose[via]: (via, 0)}, more)
+            more, client = gap - now, self.whose[via]
+            old = known.get(client)
+            if old is None or via > old[0] or via == old[0] and more > old[1]:
+                known[client] = via, more
             keep_latest(known, self.known[self.base[via]], more + self.since[via])
 
 

@@ -18,11 +18,13 @@ KILLS = frozenset(("kill", "tgkill", "tkill"))
 FORKS = frozenset(("clone", "clone3", "vfork", "fork"))
 EXITS = frozenset(("exit", "exit_group"))
 OTHERS = frozenset((
-    "fcntl", "flock", "futex", "execve", "connect", "accept", "accept4", "splice", "sendfile", "close", "dup2", "dup3",
+    "fcntl", "flock", "futex", "execve", "connect", "accept", "accept4", "splice", "sendfile", "close", "dup2", "dup3", "eventfd", "eventfd2",
 ))
 # The calls that order threads.
 CALLS = READS | WRITES | POLLS | SLEEPS | WAITS | KILLS | FORKS | EXITS | OTHERS
 
+# What strace shows of descriptors whose bytes are numbers, which count.
+OF_NUMBERS = ("signalfd", "eventfd")
 DESCRIPTOR = re.compile(r"\(?(\d{1,10})(?!\d)(?:<((?:->|[^<>])*)>)?")
 # What counts of the words of these is the descriptor that stands first, and of those all.
 OF_DESCRIPTORS = READS | WRITES | {"accept", "accept4"}
@@ -40,19 +42,19 @@ class Whose(NamedTuple):
 
 class Asked(NamedTuple):
     """A call (or the end of a thread, `+++`, or a signal, `---`): its name, what it asked and answered, and what stands behind the answer.
-    `count` is the number that it ended with, 0 where it is none: of bytes, or of threads that it woke."""
+    `amount` is the number that it ended with, 0 where it is none: of bytes, or of threads that it woke."""
 
     name: str
     args: str
     result: str
     tail: str
     has_failed: bool
-    count: int
+    amount: int
 
 
 def asked_of(name: str, args: str, result: str, tail: str) -> Asked:
-    count = int(result) if result.isdecimal() and len(result) < 20 else 0
-    return Asked(name, args, result, tail, result == "?" or result.startswith("-"), count)
+    amount = int(result) if result.isdecimal() and len(result) < 20 else 0
+    return Asked(name, args, result, tail, result == "?" or result.startswith("-"), amount)
 
 
 class Step(NamedTuple):
@@ -76,6 +78,8 @@ class Birth(NamedTuple):
 
 
 NO_REQUESTS = range(0)
+# What stands behind a call that strace was told to delay.
+DELAYED = "(DELAYED)"
 # Behind all places of a log.
 LAST = 1 << 62, 0, 0
 # What Steps.in_order tells of: a birth, or of a step the beginning, the end, or both at once.
@@ -96,7 +100,7 @@ def what_counts(name: str, args: str) -> str:
     found = DESCRIPTOR.match(args) if name in OF_DESCRIPTORS else None
     if found is None:
         return ""
-    return args if found[2] and "signalfd" in found[2] else found[0]
+    return args if found[2] and any(it in found[2] for it in OF_NUMBERS) else found[0]
 
 
 class Steps:
@@ -111,11 +115,15 @@ class Steps:
         self.requests: list[range] = []
         # The same calls come often.
         self.alike: dict[tuple[str, str, str, str], Asked] = {}
+        self.is_delayed = False
 
     def add(self, whose: Whose, begun: int, ended: int, time: int, end: int, words: tuple[str, str, str, str], requests: range) -> None:
+        """Adds a call that has returned: the places and times of its beginning and its end, its name, what counts of its arguments, its result
+        and what stands behind that, and the requests that it made."""
         asked = self.alike.get(words)
         if asked is None:
             asked = self.alike[words] = asked_of(*words)
+            self.is_delayed = self.is_delayed or DELAYED in asked.tail
         self.whose.append(whose)
         self.asked.append(asked)
         self.requests.append(requests or NO_REQUESTS)

@@ -7,11 +7,12 @@ import signal
 from bisect import bisect_right
 from collections.abc import Callable, Sequence
 from dataclasses import dataclass, field
+from typing import NamedTuple
 
 from .logs import Request
 from .order_frontier import START, Frontiers, Point, Thread
 from .order_locks import BEHIND, Holder, Key, Locks, Range
-from .order_steps import BEGIN, END, EXITS, FORKS, KILLS, POLLS, READS, SLEEPS, WAITS, WRITES, Birth, Step, Steps, descriptor_of
+from .order_steps import BEGIN, END, EXITS, FORKS, KILLS, POLLS, READS, SLEEPS, WAITS, WRITES, Birth, Step, Steps, Whose, descriptor_of
 from .order_streams import ALONE, Channel, Streams, channel_of
 
 # Why one waits for another, by the words of `--order`.
@@ -25,14 +26,16 @@ CONNECT = re.compile(r'sin6?_port=htons\((\d+)\)|sun_path=@?"([^"]*)"')
 ACCEPT = re.compile(r':(\d+)\]$|"([^"]*)"')
 SIGNAL = re.compile(r"--- (SIG\w+) .*?si_pid=(\d+)")
 SENDER = re.compile(r"si_pid=(\d+)")
+# How strace shows an eventfd.
+EVENT = "eventfd"
 TEXT = re.compile(r'"((?:[^"\\]|\\.)*)"')
 ESCAPED = re.compile(r"\\([0-7]{1,3}|.)")
 LETTERS = {"n": "\n", "t": "\t", "r": "\r", "v": "\v", "f": "\f"}
 NUMBERS = {it.name: int(it) for it in signal.Signals}
 # In what signalfd tells, the number of a signal is the first byte, that of its sender the four from this one on.
 SENDER_AT = 12
-# The value of a mutex of the C library that somebody waits for.
-CONTENDED = "2"
+# The value of a mutex of the C library that somebody waits for, and what wakes all that wait at an address.
+CONTENDED, EVERYBODY = "2", "2147483647"
 # Times of a log are told to the microsecond, so that a release may seem to be a little before a beginning.
 SLACK = 1000
 # A call that takes less did not wait for room in a pipe; a wait of less is not told.
@@ -85,6 +88,10 @@ class Walk:
         self.streams = Streams(self.frontiers)
         self.mutexes: dict[tuple[str, str], Point] = {}
         self.wakes: dict[tuple[str, str], list[Wake]] = collections.defaultdict(list)
+        # By address, who waits there as at a barrier, and since where; and each eventfd by the process that made it and its descriptor.
+        self.arrived: dict[tuple[str, str], dict[str, Point]] = collections.defaultdict(dict)
+        self.events: dict[tuple[str, int], str] = {}
+        self.parents: dict[str, str] = {}
         self.connects: dict[tuple[str, str], collections.deque[Point]] = collections.defaultdict(collections.deque)
         self.kills: dict[str, list[tuple[str, Point]]] = collections.defaultdict(list)
         self.makers: dict[object, tuple[int, str]] = {}
@@ -121,6 +128,8 @@ class Walk:
             return
         found = self.threads[birth.whose.thread] = Thread(birth.whose.thread, birth.whose.process, birth.whose.box, parent.last)
         self.note(found, birth.whose.number)
+        if found.process != parent.process:
+            self.parents[found.process] = parent.process
         if self.join(found, parent.here(), 0, "fork"):
             # What the parent had waited for keeps its kind.
             found.why.update(parent.why)
@@ -207,7 +216,21 @@ class Walk:
             self.locks.give_up((path, "flock"), (step.whose.process, number), Range(), point)
 
     def channel(self, step: Step, path: str, writes: bool) -> Channel | None:
+        if EVENT in path:
+            return step.whose.box, self.event(step.whose.process, descriptor_of(step.asked.args)[0])
         return (step.whose.box, path) if path in self.fifos else channel_of(step.whose.box, path, writes)
+
+    def event(self, process: str, descriptor: int) -> str:
+        """The eventfd that a process has under this descriptor: one that it made, or has of its parent."""
+        maker: str | None = process
+        while maker is not None and (maker, descriptor) not in self.events:
+            maker = self.parents.get(maker)
+        return self.events.get((maker or process, descriptor), f"{process} {descriptor}")
+
+    def new_event(self, thread: Thread, step: Step) -> bool:
+        if step.asked.result.isdecimal():
+            self.events[thread.process, step.asked.amount] = f"{thread.process} {step.begun}"
+        return False
 
     def close(self, thread: Thread, step: Step, point: Point) -> None:
         number, path = descriptor_of(step.asked.args)
@@ -225,12 +248,21 @@ class Walk:
             self.streams.close(channel, point)
 
     def wake(self, thread: Thread, step: Step, point: Point) -> None:
-        found = FUTEX.match(step.asked.args)
-        if found and found[2].startswith("FUTEX_WAKE") and step.asked.result.isdecimal():
-            key = futex_of(step, found)
+        found = futex_of(step.asked.args)
+        if found is None:
+            return
+        key = found.key(step.whose)
+        if found.waits and not found.is_bitset and found.value != CONTENDED:
+            self.arrived[key][thread.name] = point
+        elif found.wakes and step.asked.result.isdecimal():
+            if found.value == EVERYBODY and self.arrived[key]:
+                # The last one at a barrier comes after all that wait there.
+                for it in self.arrived.pop(key).values():
+                    self.join(thread, it, 0, "futex")
+                point = thread.point = thread.here()
             self.mutexes[key] = self.frontiers.both(self.mutexes.get(key), point)
             wakes = self.wakes[key]
-            wakes.append(Wake(step.begun, step.asked.count, point))
+            wakes.append(Wake(step.begun, step.asked.amount, point))
             del wakes[:-MOST_WAKES]
 
     def write(self, thread: Thread, step: Step, point: Point) -> None:
@@ -244,7 +276,7 @@ class Walk:
     def written(self, step: Step, path: str, point: Point) -> None:
         channel = self.channel(step, path, True)
         if channel is not None:
-            self.streams.write(channel, step.whose.process, step.asked.count, point)
+            self.streams.write(channel, step.whose.process, count_of(step, path), point)
         elif ALONE.match(path):
             self.tally.without_peer += 1
 
@@ -363,17 +395,17 @@ class Walk:
         return True
 
     def futex(self, thread: Thread, step: Step) -> bool:
-        found = FUTEX.match(step.asked.args)
-        if found is None or not found[2].startswith("FUTEX_WAIT"):
+        found = futex_of(step.asked.args)
+        if found is None or not found.waits:
             return False
-        value, is_bitset = found[4] or "", "BITSET" in found[2]
-        ended = self.exits.get(self.called(step.whose.box, value)) if is_bitset else None
+        ended = self.exits.get(self.called(step.whose.box, found.value)) if found.is_bitset else None
         if ended is not None:
             return self.wait_for(thread, step, [ended], "futex")
         if step.asked.has_failed and "EAGAIN" not in step.asked.tail:
             return False
-        key = futex_of(step, found)
-        if value == CONTENDED and not is_bitset:
+        key = found.key(step.whose)
+        self.arrived[key].pop(thread.name, None)
+        if found.value == CONTENDED and not found.is_bitset:
             return key in self.mutexes and self.wait_for(thread, step, [self.mutexes[key]], "futex")
         woken = self.woken(thread, step, key)
         return woken is not None and self.wait_for(thread, step, [woken], "futex")
@@ -401,20 +433,19 @@ class Walk:
         if channel is None:
             self.tally.without_peer += ALONE.match(path) is not None
             return False
-        points = self.streams.take(channel, step.asked.count)
+        points = self.streams.take(channel, count_of(step, path))
         is_known = bool(points) and self.wait_for(thread, step, points, kind_of(channel))
-        if step.asked.count:
+        if step.asked.amount:
             here = thread.here()
             self.streams.note_read(channel, Point(step.end, here.who, here.of, here.clock))
         return is_known
 
     def told_of_signal(self, thread: Thread, step: Step) -> bool:
         """A read of a signalfd: the first signal of its number that this sender sent. Those of one number do not queue up."""
-        text = TEXT.search(step.asked.args)
-        raw = ESCAPED.sub(lambda it: chr(int(it[1], 8)) if it[1][0] in "01234567" else LETTERS.get(it[1], it[1]), text[1]) if text else ""
+        raw = shown_bytes(step.asked.args)
         if len(raw) < SENDER_AT + 4:
             return False
-        number, sender = ord(raw[0]), self.called(step.whose.box, str(sum(ord(raw[SENDER_AT + n]) << 8 * n for n in range(4))))
+        number, sender = raw[0], self.called(step.whose.box, str(int.from_bytes(raw[SENDER_AT : SENDER_AT + 4], "little")))
         queue = self.kills.get(thread.name) or self.kills.get(thread.process) or []
         alike = [it for it in queue if NUMBERS.get(it[0]) == number]
         sent = next((it for it in alike if it[1].who == sender), None)
@@ -476,6 +507,18 @@ def kind_of(channel: Channel) -> str:
     return "pipe" if len(channel) == 2 else "socket"
 
 
+def count_of(step: Step, path: str) -> int:
+    """How much is written or read: of an eventfd the number that the bytes are, and where they are not shown one."""
+    return step.asked.amount if EVENT not in path else int.from_bytes(shown_bytes(step.asked.args)[:8], "little") or 1
+
+
+def shown_bytes(args: str) -> bytes:
+    """The bytes of the first text that strace shows."""
+    found = TEXT.search(args)
+    text = ESCAPED.sub(lambda it: chr(int(it[1], 8)) if it[1][0] in "01234567" else LETTERS.get(it[1], it[1]), found[1]) if found else ""
+    return bytes(min(ord(it), 255) for it in text)
+
+
 def holder_of(step: Step, descriptor: int) -> Holder:
     """Whose a record lock is: the process's, or of F_OFD_SETLK the descriptor's."""
     return step.whose.process, descriptor if "F_OFD" in step.asked.args else -1
@@ -491,9 +534,29 @@ def range_of(args: str) -> tuple[Range, str]:
     return Range(first, min(first + length, BEHIND) if length else BEHIND), found[1]
 
 
-def futex_of(step: Step, found: re.Match[str]) -> tuple[str, str]:
-    """Where a futex is: an address of a process, or of all that share it."""
-    return step.whose.process if "PRIVATE" in found[2] + found[3] else step.whose.box, found[1]
+class Futex(NamedTuple):
+    """What a call on a futex asks for: its address, which a process has alone or shares, and the value behind that."""
+
+    address: str
+    waits: bool
+    wakes: bool
+    is_bitset: bool
+    is_private: bool
+    value: str
+
+    def key(self, whose: Whose) -> tuple[str, str]:
+        """Where the futex is: an address of a process, or of all that share it."""
+        return whose.process if self.is_private else whose.box, self.address
+
+
+@functools.lru_cache(maxsize=1 << 14)
+def futex_of(args: str) -> Futex | None:
+    found = FUTEX.match(args)
+    if found is None:
+        return None
+    address, what, flags, value = found.groups("")
+    waits, wakes = what.startswith("FUTEX_WAIT"), what.startswith("FUTEX_WAKE")
+    return Futex(address, waits, wakes, "BITSET" in what, "PRIVATE" in what + flags, value)
 
 
 # What is done at the beginning of a call, and at its end: True where it says what became of its time.
@@ -507,7 +570,8 @@ RELEASES: dict[str, Release] = {
 }
 ACQUIRES: dict[str, Acquire] = {
     "fcntl": Walk.lock, "flock": Walk.lock_whole, "futex": Walk.futex, "accept": Walk.accept, "accept4": Walk.accept,
-    "splice": Walk.receive, "sendfile": Walk.receive, **dict.fromkeys(READS, Walk.receive), **dict.fromkeys(WRITES, Walk.send),
+    "splice": Walk.receive, "sendfile": Walk.receive, "eventfd": Walk.new_event, "eventfd2": Walk.new_event,
+    **dict.fromkeys(READS, Walk.receive), **dict.fromkeys(WRITES, Walk.send),
     **dict.fromkeys(WAITS, Walk.wait), **dict.fromkeys(FORKS, Walk.forked), **dict.fromkeys(POLLS, Walk.poll),
     **dict.fromkeys(SLEEPS, Walk.sleep),
 }

@@ -145,7 +145,7 @@ class Calls:
         if name in ORDERED or len(made) > before:
             words = name, what_counts(name, args), result, behind
             whose = self.order.of(process.who, pid, process.box)
-            self.order.call(whose, begun, at, time, time + (took or 0), words, range(before, len(made)))
+            self.order.steps.add(whose, begun, at, time, time + (took or 0), words, range(before, len(made)))
         return is_understood
 
     def note_fifo(self, order: Record, process: Process, args: str) -> None:
