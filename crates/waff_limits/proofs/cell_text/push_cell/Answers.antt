@@ -1,5 +1,5 @@
 use Rattle.waff_model.proofs.OwnerLemmas.{space_below}
 use Rattle.waff_limits.proofs.cell_text.push_cell.Goals as goal
 
-pub push_cell_of_space-requires : goal.push_cell_of_space-requires
-push_cell_of_space-requires c = space_below c.args.layout.now.spaces c.args.cell.space c.args.cell.index c.requires
+pub push_cell-requires : goal.push_cell-requires
+push_cell-requires c = space_below c.args.layout.now.spaces c.args.cell.space c.args.cell.index c.requires
