@@ -11,6 +11,8 @@ invariant_of-locks c = record {
       (cells_known c.args.layout.now c.args.case.now.trace.now.messages c.in_ok-cells.cells.items c.in_ok-cells.ensures);
 }
 
-pub text_by-text-requires-clause-listed : goal.text_by-text-requires-clause-listed
-text_by-text-requires-clause-listed c =
-    subst (ListsLocks c.args.layout.now c.args.case.now.trace.now.messages) (sym c.as_slice.ensures.value) c.in_ok-cells.ensures
+pub text_by-text-requires : goal.text_by-text-requires
+text_by-text-requires c = record {
+  listed = subst (ListsLocks c.args.layout.now c.args.case.now.trace.now.messages) (sym c.as_slice.ensures.value)
+      c.in_ok-cells.ensures;
+}
