@@ -1,7 +1,10 @@
 mod Alike
 mod Counted
+mod Cutting
 mod Drifting
+mod Holds
 mod Kept
+mod LeftRuns
 mod Measured
 mod Pass
 mod Placing

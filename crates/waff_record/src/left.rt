@@ -1,0 +1,92 @@
+//! What is left of a run that was stopped: the messages that had ended by then.
+
+ghost use Rattle.std.specs.Prelude.{◌≡◌, ◌≤◌, IfOk, IsTrue, OnOk, ◌↔◌, length};
+ghost use Rattle.waff_assign.specs.Lowest.{IsAssignment};
+ghost use Rattle.waff_inputs.specs.Inputs.{instance_under};
+ghost use Rattle.waff_line.specs.Turns.{AreReached, course_by};
+ghost use Rattle.waff_model.specs.Numbers.{IsAmongFirst};
+ghost use Rattle.waff_model.specs.declared.limits.TheConstants.{MAX_MESSAGES};
+ghost use Rattle.waff_plan.specs.Bound.{IsWorkers};
+ghost use Rattle.waff_record.specs.Left.{AreLeft, AreLeftOf, IsLeft, turns_kept};
+ghost use Rattle.waff_record.specs.Turns.{turn_at};
+
+use std::alloc::{AllocError, Global};
+use waff_inputs::Accepted;
+use waff_line::Turn;
+
+/// A run of the messages of accepted files that was stopped: its turns, some of which have not ended. It was stopped for a
+/// message, or for none, 0.
+#[derive(Clone, Copy)]
+pub struct StoppedRun<'a> {
+    pub whole: &'a Accepted,
+    pub turns: &'a [Turn],
+    pub but: u32,
+    pub workers: u32,
+    pub tick: u32,
+    pub ghost staffed: { IsWorkers workers },
+    pub ghost lasting: { 1 ≤ tick },
+    pub ghost assigned: { IsAssignment whole.now.layout whole.now.trace.messages whole.now.assigned },
+    pub ghost reached: { AreReached (course_by
+        (instance_under whole.now.layout whole.now.assigned whole.now.trace) workers tick) turns.now },
+}
+
+/// The numbers of the messages that are left.
+pub(crate) fn numbers_left(alloc: Global, turns: &[Turn], but: u32) -> Result<Vec<u32>, AllocError>
+    requires few { length turns.now ≤ MAX_MESSAGES }
+    ensures { IfOk result (λ kept. AreLeft turns.now but kept.items) }
+{
+    let mut kept = Vec::new(alloc);
+    for at in 0..turns.len() as u32 {
+        note_left(&mut kept, turns, at + 1, but)?;
+    }
+    Ok(kept)
+}
+
+/// Notes message `n` behind those that are left of the messages before it, where it is left.
+fn note_left(kept: &mut Vec<u32>, turns: &[Turn], n: u32, but: u32) -> Result<(), AllocError>
+    requires number { IsAmongFirst (length turns.now) n }
+    ensures { OnOk result (AreLeftOf turns.now but (n - 1) kept.old.items
+        → AreLeftOf turns.now but n kept.new.items) }
+{
+    if is_left(turns, n, but) {
+        kept.push(n)?;
+    }
+    Ok(())
+}
+
+/// Whether message `n` is left.
+fn is_left(turns: &[Turn], n: u32, but: u32) -> bool
+    requires number { IsAmongFirst (length turns.now) n }
+    ensures { IsTrue result ↔ IsLeft turns.now but n }
+{
+    let turn = turn_of(turns, n);
+    turn.ended && n != but
+}
+
+/// The turns of the messages with these numbers.
+pub(crate) fn turns_kept(
+    alloc: Global,
+    turns: &[Turn],
+    kept: &[u32],
+) -> Result<Vec<Turn>, AllocError>
+    ensures { IfOk result (λ found. found.items ≡ turns_kept turns.now kept.now) }
+{
+    kept.iter().map(|n| turn_of(turns, *n)).collect(alloc)
+}
+
+/// The turn of message `n`, and that of no message where there is none.
+fn turn_of(turns: &[Turn], n: u32) -> Turn
+    ensures { result ≡ turn_at turns.now n }
+{
+    match turns.get((n as usize).saturating_sub(1)) {
+        Some(turn) => *turn,
+        None => Turn {
+            start: 0,
+            finish: 0,
+            worker: 0,
+            after: 0,
+            late: 0,
+            ended: false,
+        },
+    }
+}
