@@ -1,5 +1,5 @@
 -- The events of a run, as far as they are of the messages that are kept, are those of a run of these messages alone.
-use Rattle.std.proofs.Common.{◌≡◌, ◌≢◌, ◌⊎◌, ℕ, zero, suc, ◌+◌, ◌-◌, ◌*◌, ◌<◌, ◌≤◌, max, inl, inr, true, false, List, [], ◌∷◌, ◌++◌, length, map, get_or, refl, ap, sym, ◌∙◌, subst, arith, if◌then◌else◌}
+use Rattle.std.proofs.Common.{◌≡◌, ◌≢◌, ◌⊎◌, ℕ, zero, suc, ◌+◌, ◌-◌, ◌*◌, ◌<◌, ◌≤◌, max, inl, inr, true, false, List, [], ◌∷◌, ◌++◌, length, map, get_or, refl, ap, sym, ◌∙◌, subst, arith}
 use Rattle.std.proofs.Math.ListN.{length-replicate}
 use Rattle.std.proofs.lemmas.Bool.{cases_Bool, cases_eq, cases_lt}
 use Rattle.waff_model.specs.Versions.{has_clients}
@@ -10,7 +10,7 @@ use Rattle.waff_plan.specs.Obeys.{AwaitsEarlier}
 use Rattle.waff_plan.specs.Order.{ComesBefore, Serves}
 use Rattle.waff_plan.specs.Work.{Await, Work, IsAmongFirst, IsAwaited, finish_of, issue_after}
 use Rattle.waff_plan.proofs.Holding.{issue_again}
-use Rattle.waff_line.specs.Machine.{Course, State, Turn, HasBegun, HasEnded, IsClear, IsIssued, IsRunning, MayBegin, Runs, Steps, begun_on, ended_at, ended_turn, finish_at, finish_in, issue_in, key_in, measured, no_turn, opening, start_in, told, turn_of, with_clock, with_turn}
+use Rattle.waff_line.specs.Machine.{Course, State, Turn, HasBegun, HasCome, HasEnded, IsClear, IsIssued, IsRunning, MayBegin, Runs, Steps, begun_on, ended_at, ended_turn, finish_at, finish_in, issue_in, key_in, measured, no_turn, opening, start_in, told, turn_of, with_clock, with_turn}
 use Rattle.waff_line.specs.declared.event.Event.{Event}
 use Rattle.waff_line.specs.declared.event.Event.TheVariants.{Tell, Begin, End}
 use Rattle.waff_line.proofs.Issuing.{key_with, key_without}
@@ -82,6 +82,10 @@ pub record AreStates (kept : List ℕ) (course : Course) (s r : State) : Type 0 
 turn_clock : (s : State) (clock n : ℕ) → turn_of (with_clock s clock) n ≡ turn_of s n
 turn_clock s clock zero = refl
 turn_clock s clock (suc n) = refl
+
+-- the turn of a message that begins on this worker at this time
+abbrev begun_at : ℕ → ℕ → Turn
+begun_at x clock = record { worker = x; start = clock; ended = false; finish = 0 }
 
 -- one run behind another
 runs_on : (course : Course) (s : State) (events : List Event) (t : State) (more : List Event) (u : State) → Runs course s events t → Runs course t more u
@@ -182,10 +186,7 @@ module _ (kept : List ℕ) (course cut : Course) (are : AreCourses kept course c
       number = record { from = among.from; to = omega (arith, among.to, are.count) };
       waits = λ begun. may.waits (subst (λ (turn : Turn). 1 ≤ turn.worker) (both.turn k among) begun);
       issued = issued_here k among may.issued;
-      come =
-          let late : (if has_clients cut.version then 1 else 0) ≡ (if has_clients course.version then 1 else 0)
-          = ap (λ (version : Version). if has_clients version then 1 else 0) are.version in
-          omega (arith, may.come, issue_is k among, both.clock, late);
+      come = subst (λ (version : Version). HasCome version (issue_in cut r k) r.clock) (sym are.version) (omega (arith, may.come, issue_is k among, both.clock));
       clear = clear_here k among may.clear;
     }
 
@@ -249,7 +250,7 @@ module _ (kept : List ℕ) (course cut : Course) (are : AreCourses kept course c
       (begun_on r x k, (may_begin s r both x k among (subst (MayBegin course s x) (sym is) may), refl), refl),
       turned s r both n k (record { worker = x; start = s.clock; ended = false; finish = 0 })
           (record { worker = x; start = r.clock; ended = false; finish = 0 }) among is
-          (ap (λ (clock : ℕ). record Turn { worker = x; start = clock; ended = false; finish = 0 }) both.clock),
+          (ap (λ clock. begun_at x clock) both.clock),
     )
     | inr none ↦ ([], r, refl, passed s r both n (record { worker = x; start = s.clock; ended = false; finish = 0 }) may.number.from none)
   ]

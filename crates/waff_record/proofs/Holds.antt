@@ -50,7 +50,7 @@ module _ (layout : Hierarchy) (from to : List Message) (locks others : List Cell
       let (p, within, is) = (known.each cell).1 (locked, (message, has, named)) in
       (p, slice_get-get_or others p cell within ∙ ap Some is)
 
-  use_there : (ops : List Op) (u : LockUse) (one : IsUseOf layout ops locks u) (l : ℕ) → slice_get others l ≡ Some first_use.cell
+  use_there : (ops : List Op) (u : LockUse) (one : IsUseOf layout ops locks u) (l : ℕ) → slice_get others l ≡ Some one.cell
       → IsUseOf layout ops others (record { lock = l; alone = u.alone })
   use_there ops u one l is = record { cell = one.cell; numbered = is; named = one.named; alone = one.alone }
 

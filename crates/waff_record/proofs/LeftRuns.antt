@@ -11,7 +11,7 @@ use Rattle.waff_plan.proofs.TimingLemmas.{length-timings_of}
 use Rattle.waff_line.specs.Machine.{Course, opening, turn_of}
 use Rattle.waff_line.specs.Machine as machine
 use Rattle.waff_line.specs.Noted.{shown}
-use Rattle.waff_line.specs.Scaled.{awaits_scaled, scaled}
+use Rattle.waff_line.specs.Scaled.{await_scaled, awaits_scaled, scaled}
 use Rattle.waff_line.specs.Turns.{AreReached, course_by}
 use Rattle.waff_line.specs.declared.turn.Turn.{Turn}
 use Rattle.waff_line.proofs.Scaling.{earlier_scaled}
@@ -35,7 +35,7 @@ seen_there course turns there (suc k) from =
 -- in nanoseconds too messages are issued as they are among all
 scaled_there : (kept : List ℕ) (tick : ℕ) (awaits : List Await) → map (await_kept kept) (awaits_scaled tick awaits) ≡ awaits_scaled tick (map (await_kept kept) awaits)
 scaled_there kept tick [] = refl
-scaled_there kept tick (a ∷ rest) = ap (λ xs. record Await { message = number_at kept a.message; gap = a.gap * tick } ∷ xs) (scaled_there kept tick rest)
+scaled_there kept tick (a ∷ rest) = ap (λ (xs : List Await). await_kept kept (await_scaled tick a) ∷ xs) (scaled_there kept tick rest)
 
 issued_scaled : (kept : List ℕ) (tick : ℕ) (work cut : Work) (k : ℕ) → IsIssuedAmong kept work cut k → IsIssuedAmong kept (scaled tick work) (scaled tick cut) k
 issued_scaled kept tick work cut k is = record {

@@ -1,12 +1,16 @@
 mod Alike
 mod Counted
 mod Cutting
+mod CutDown
 mod Drifting
+pub mod Ended
 mod Holds
 mod Kept
+mod LeftOf
 mod LeftRuns
 mod Measured
 mod Pass
+mod Planned
 mod Placing
 mod Ran
 mod Rows
