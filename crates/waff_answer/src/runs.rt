@@ -123,7 +123,7 @@ fn tell<E: ErrorStream>(
     err: &mut E,
 ) -> u8
     ensures told { Tells (E.holds err.old) (E.holds err.new) (E.failed err.new)
-        (drift_message drift ++ (run_message error.now ++ advice.now)) }
+        ((drift_message drift ++ run_message error.now) ++ advice.now) }
     ensures status { result ≡ run_status error.now }
 {
     tell_lines(alloc, drift, error, advice, err);
@@ -139,7 +139,7 @@ fn tell_lines<E: ErrorStream>(
     err: &mut E,
 )
     ensures { Tells (E.holds err.old) (E.holds err.new) (E.failed err.new)
-        (drift_message drift ++ (run_message error.now ++ advice.now)) }
+        ((drift_message drift ++ run_message error.now) ++ advice.now) }
 {
     let Some(percent) = drift else {
         tell_line(alloc, error, advice, err);
@@ -293,12 +293,13 @@ fn write_left<R: Files, W: Write>(
         (W.contents out.old) (W.contents out.new) }
 {
     let RanOnFiles { told, part } = left;
-    let drift = match write_texts(rt, &told, part, out) {
-        Ok(()) => told.drift,
-        Err(_) => None,
-    };
+    let wrote = write_texts(rt, &told, part, out);
+    let drift = told.drift;
     drop(told);
-    Fallen { error, drift }
+    match wrote {
+        Ok(()) => Fallen { error, drift },
+        Err(_) => Fallen { error, drift: None },
+    }
 }
 
 /// Writes both texts of a run.
