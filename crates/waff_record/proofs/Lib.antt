@@ -16,6 +16,7 @@ mod Ran
 mod Rows
 mod Sooner
 mod Steps
+mod Stopped
 mod Telling
 mod Unique
 mod Walking
