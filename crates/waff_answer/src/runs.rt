@@ -416,31 +416,20 @@ fn ran_on_files<R: Threads + Wait + Clock + Files + Opens + Eprint + Sync>(
     drop(store);
     match ran {
         Ok(told) => Ok(RanOnFiles { told, part }),
-        Err(Broken { error, told }) => Err(left_of(rt, error, told, part)),
-    }
-}
-
-/// What is left of a run that broke off, with the file for the measured trace; where nothing is, that goes.
-fn left_of<R: Files>(
-    rt: &R,
-    error: RunError,
-    told: Option<Recorded>,
-    part: Option<Part>,
-) -> BrokeOff
-    ensures error { result.error ≡ error }
-    ensures none { told ≡ None → result.left ≡ None }
-    ensures some { IfSome told (λ told. IfSome result.left (λ left. left.told ≡ told)) }
-{
-    match told {
-        Some(told) => BrokeOff {
+        Err(
+            Broken {
+                error,
+                told: Some(told),
+            },
+        ) => Err(BrokeOff {
             error,
             left: Some(RanOnFiles { told, part }),
-        },
-        None => {
+        }),
+        Err(Broken { error, told: None }) => {
             if let Some(part) = part {
                 part.remove(rt);
             }
-            BrokeOff { error, left: None }
+            Err(broke_of(error))
         }
     }
 }
@@ -469,7 +458,7 @@ fn ran_on_store<R: Threads + Wait + Clock + Eprint + Sync>(
         (instance_under accepted.now.layout accepted.now.assigned accepted.now.trace)
         settings.now.pace.workers settings.now.pace.tick (message_of_tick broken.error)
         (string_bytes told.measured) (string_bytes told.text) told.drift)) }
-    ensures unwanted { IfErr result (λ broken. settings.now.partial ≡ false → broken.told ≡ None) }
+    ensures wanted { IfErr result (λ broken. IfSome broken.told (λ _. settings.now.partial ≡ true)) }
 {
     let hands = match silent_hands(alloc, accepted.trace.len() as usize) {
         Ok(hands) => hands,

@@ -1,6 +1,6 @@
 //! A run, from the accepted files to the two texts.
 
-ghost use Rattle.std.specs.Prelude.{◌≡◌, ◌≤◌, IfErr, IfOk, IfSome, None, OnOk, false, length, map, option_map, string_bytes};
+ghost use Rattle.std.specs.Prelude.{◌≡◌, ◌≤◌, IfErr, IfOk, IfSome, None, OnOk, true, length, map, option_map, string_bytes};
 ghost use Rattle.waff_assign.specs.Lowest.{IsAssignment};
 ghost use Rattle.waff_inputs.specs.Inputs.{instance_under};
 ghost use Rattle.waff_line.specs.Turns.{AreReached, AreRunTurns, course_by};
@@ -95,7 +95,7 @@ pub fn run_on<R: Threads + Wait + Clock + Eprint + Sync, S: Store + Sync>(
         (instance_under accepted.now.layout accepted.now.assigned accepted.now.trace)
         settings.now.pace.workers settings.now.pace.tick (message_of_tick broken.error)
         (string_bytes told.measured) (string_bytes told.text) told.drift)) }
-    ensures unwanted { IfErr result (λ broken. settings.now.partial ≡ false → broken.told ≡ None) }
+    ensures wanted { IfErr result (λ broken. IfSome broken.told (λ _. settings.now.partial ≡ true)) }
 {
     let filled = fill_all(alloc, accepted, store, hand, places, settings);
     if let Err(error) = filled {
@@ -184,7 +184,7 @@ fn broken_of<R: Threads + Sync>(
         (instance_under accepted.now.layout accepted.now.assigned accepted.now.trace)
         settings.now.pace.workers settings.now.pace.tick (message_of_tick result.error)
         (string_bytes told.measured) (string_bytes told.text) told.drift) }
-    ensures unwanted { settings.now.partial ≡ false → result.told ≡ None }
+    ensures wanted { IfSome result.told (λ _. settings.now.partial ≡ true) }
 {
     let Halted { why, turns } = halted;
     let error = fault_of(alloc, accepted, places, settings.pace.workers, why);
