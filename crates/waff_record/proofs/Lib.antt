@@ -1,6 +1,7 @@
 mod Alike
 mod Counted
 mod Cutting
+mod CutBelow
 mod CutDown
 mod Drifting
 pub mod Ended

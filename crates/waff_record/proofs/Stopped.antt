@@ -8,7 +8,7 @@ use Rattle.waff_assign.specs.declared.case.Case.{Case}
 use Rattle.waff_inputs.specs.Inputs.{instance_under}
 use Rattle.waff_plan.specs.Timetable.{AreTimings, timings_of}
 use Rattle.waff_line.specs.Machine.{Course, IsCourse}
-use Rattle.waff_line.specs.Turns.{AreRunTurns, course_by}
+use Rattle.waff_line.specs.Turns.{AreReached, AreRunTurns, course_by}
 use Rattle.waff_line.specs.declared.turn.Turn.{Turn}
 use Rattle.waff_record.specs.Left.{AreLeft, IsCutDown, IsCutTo, TellLeft, turns_kept}
 use Rattle.waff_record.specs.Runs.{AreRunTexts}
@@ -21,14 +21,15 @@ use Rattle.waff_record.proofs.Planned.{AreLaws}
 abbrev pub whole_of : StoppedRun → Instance
 whole_of run = instance_under run.whole.now.layout run.whole.now.assigned run.whole.now.trace
 
-module _ (run : StoppedRun) (kept : List ℕ) (case : Case) (left : AreLeft run.turns.now run.but kept) (cut : IsCutTo run.whole.now.trace kept case.trace.now)
+module _ (run : StoppedRun) (kept : List ℕ) (case : Case) (holds : IsAssignment run.whole.now.layout run.whole.now.trace.messages run.whole.now.assigned)
+    (reached : AreReached (course_by (whole_of run) run.workers run.tick) run.turns.now) (left : AreLeft run.turns.now run.but kept) (cut : IsCutTo run.whole.now.trace kept case.trace.now)
     (tree : case.tree.now ≡ run.whole.now.layout.tree) (is_tree : IsTree case.tree.now)
     (assigned : IsAssignment run.whole.now.layout case.trace.now.messages case.assigned.now)
     (timings : AreTimings case.trace.now.version (timings_of case.trace.now.messages)) (laws : (course : Course) → IsCourse course → AreLaws course) where
   down : IsCutDown (whole_of run) kept (instance_of case)
   down =
       cut_down run.whole.now.layout case.tree.now tree is_tree run.whole.now.trace case.trace.now run.whole.now.assigned case.assigned.now kept cut
-      (left_among (whole_of run) run.workers run.tick run.turns.now run.but kept run.reached left) run.assigned assigned
+      (left_among (whole_of run) run.workers run.tick run.turns.now run.but kept reached left) holds assigned
 
   course_is : IsCourse (course_by (instance_of case) run.workers run.tick)
   course_is = is_course_by (instance_of case) run.workers run.tick timings case.lengths run.staffed.from
@@ -36,7 +37,7 @@ module _ (run : StoppedRun) (kept : List ℕ) (case : Case) (left : AreLeft run.
   pub stopped_run : (turns : List Turn) → turns ≡ turns_kept run.turns.now kept → AreRunTurns (course_by (instance_of case) run.workers run.tick) turns
   stopped_run turns same =
       left_run (whole_of run) run.workers run.tick run.turns.now run.but kept (instance_of case) course_is
-      (laws (course_by (instance_of case) run.workers run.tick) course_is) timings.earlier run.reached left down turns same
+      (laws (course_by (instance_of case) run.workers run.tick) course_is) timings.earlier reached left down turns same
 
   pub stopped_told : (hierarchy measured text : List ℕ) (drift : Option ℕ) (turns : List Turn) → turns ≡ turns_kept run.turns.now kept
       → AreRunTexts hierarchy (instance_of case) run.workers run.tick turns measured text drift

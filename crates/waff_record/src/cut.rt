@@ -3,7 +3,7 @@
 ghost use Rattle.std.specs.Bool.{OnTrue};
 ghost use Rattle.std.specs.Prelude.{◌≡◌, IfOk, length, map};
 ghost use Rattle.waff_model.specs.Numbers.{IsAmongFirst};
-ghost use Rattle.waff_plan.specs.Timetable.{timings_of, work_in};
+ghost use Rattle.waff_plan.specs.Timetable.{message_of, timings_of, work_in};
 ghost use Rattle.waff_plan.specs.Timing.{await_of};
 ghost use Rattle.waff_record.specs.Left.{IsCutTo, IsIssuedAmong, IsToldAmong, await_kept, number_at};
 
@@ -29,18 +29,37 @@ pub(crate) fn is_cut(
         return Ok(false);
     }
     for k in 1..cut.len() + 1 {
-        let n = number_at(kept, k);
-        if n == 0 || n > trace.len() {
-            return Ok(false);
-        }
-        if !is_told_among(alloc, kept, trace.message(n), cut.message(k))? {
-            return Ok(false);
-        }
-        if !is_issued_among(alloc, kept, plan, n, cut_plan, k)? {
+        if !is_cut_at(alloc, kept, trace, plan, cut, cut_plan, k)? {
             return Ok(false);
         }
     }
     Ok(true)
+}
+
+/// Whether message `k` of the second trace is the message of the first one that has its number among those that are kept.
+fn is_cut_at(
+    alloc: Global,
+    kept: &[u32],
+    trace: &Trace,
+    plan: &Plan,
+    cut: &Trace,
+    cut_plan: &Plan,
+    k: u32,
+) -> Result<bool, AllocError>
+    requires number { IsAmongFirst (length cut.now.messages) k }
+    ensures told { IfOk result (λ is. OnTrue is (IsToldAmong kept.now
+        (message_of trace.now.messages (number_at kept.now k)) (message_of cut.now.messages k))) }
+    ensures issued { IfOk result (λ is. OnTrue is
+        (IsIssuedAmong kept.now (work_in plan.now) (work_in cut_plan.now) k)) }
+{
+    let n = number_at(kept, k);
+    if n == 0 || n > trace.len() {
+        return Ok(false);
+    }
+    if !is_told_among(alloc, kept, trace.message(n), cut.message(k))? {
+        return Ok(false);
+    }
+    is_issued_among(alloc, kept, plan, n, cut_plan, k)
 }
 
 /// Whether the second message is the first one as it is told among those that are kept.
@@ -82,12 +101,13 @@ fn is_issued_among(
     cut_plan: &Plan,
     k: u32,
 ) -> Result<bool, AllocError>
-    requires number { IsAmongFirst (length plan.now.timings) n }
-    requires kept { IsAmongFirst (length cut_plan.now.timings) k }
     requires at { n ≡ number_at kept.now k }
     ensures { IfOk result (λ is. OnTrue is
         (IsIssuedAmong kept.now (work_in plan.now) (work_in cut_plan.now) k)) }
 {
+    if n == 0 || n > plan.len() || k == 0 || k > cut_plan.len() {
+        return Ok(false);
+    }
     if !are_awaited_among(alloc, kept, plan.after(n), cut_plan.after(k))? {
         return Ok(false);
     }

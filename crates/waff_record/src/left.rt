@@ -1,9 +1,6 @@
 //! What is left of a run that was stopped: the messages that had ended by then.
 
-ghost use Rattle.std.specs.Prelude.{◌≡◌, ◌≤◌, IfOk, IsTrue, OnOk, ◌↔◌, length};
-ghost use Rattle.waff_assign.specs.Lowest.{IsAssignment};
-ghost use Rattle.waff_inputs.specs.Inputs.{instance_under};
-ghost use Rattle.waff_line.specs.Turns.{AreReached, course_by};
+ghost use Rattle.std.specs.Prelude.{◌≡◌, ◌≤◌, ◌-◌, IfOk, IsTrue, OnOk, ◌↔◌, length};
 ghost use Rattle.waff_model.specs.Numbers.{IsAmongFirst};
 ghost use Rattle.waff_model.specs.declared.limits.TheConstants.{MAX_MESSAGES};
 ghost use Rattle.waff_plan.specs.Bound.{IsWorkers};
@@ -25,9 +22,6 @@ pub struct StoppedRun<'a> {
     pub tick: u32,
     pub ghost staffed: { IsWorkers workers },
     pub ghost lasting: { 1 ≤ tick },
-    pub ghost assigned: { IsAssignment whole.now.layout whole.now.trace.messages whole.now.assigned },
-    pub ghost reached: { AreReached (course_by
-        (instance_under whole.now.layout whole.now.assigned whole.now.trace) workers tick) turns.now },
 }
 
 /// The numbers of the messages that are left.

@@ -5,6 +5,7 @@ ghost use Rattle.std.specs.Prelude.{◌≡◌, IfOk, string_bytes};
 ghost use Rattle.waff_assign.specs.Case.{instance_of};
 ghost use Rattle.waff_assign.specs.Lowest.{IsAssignment};
 ghost use Rattle.waff_inputs.specs.Inputs.{instance_under};
+ghost use Rattle.waff_line.specs.Turns.{AreReached, course_by};
 ghost use Rattle.waff_model.specs.Messages.{sizes_of};
 ghost use Rattle.waff_plan.specs.Timetable.{timings_of};
 ghost use Rattle.waff_record.specs.Left.{AreLeft, IsCutTo, TellLeft, turns_kept};
@@ -32,6 +33,11 @@ pub fn record_left<R: Threads + Sync>(
     hierarchy: &[u8],
     bytes: &[u8],
 ) -> Result<Recorded, RecordError>
+    requires assigned { IsAssignment run.now.whole.now.layout
+        run.now.whole.now.trace.messages run.now.whole.now.assigned }
+    requires reached { AreReached (course_by
+        (instance_under run.now.whole.now.layout run.now.whole.now.assigned run.now.whole.now.trace)
+        run.now.workers run.now.tick) run.now.turns.now }
     ensures { IfOk result (λ told. TellLeft hierarchy.now
         (instance_under run.now.whole.now.layout run.now.whole.now.assigned run.now.whole.now.trace)
         run.now.workers run.now.tick run.now.turns.now run.now.but
@@ -55,6 +61,11 @@ fn record_kept<R: Threads + Sync>(
     hierarchy: &[u8],
     bytes: &[u8],
 ) -> Result<Recorded, RecordError>
+    requires assigned { IsAssignment run.now.whole.now.layout
+        run.now.whole.now.trace.messages run.now.whole.now.assigned }
+    requires reached { AreReached (course_by
+        (instance_under run.now.whole.now.layout run.now.whole.now.assigned run.now.whole.now.trace)
+        run.now.workers run.now.tick) run.now.turns.now }
     requires left { AreLeft run.now.turns.now run.now.but kept.now }
     ensures { IfOk result (λ told. TellLeft hierarchy.now
         (instance_under run.now.whole.now.layout run.now.whole.now.assigned run.now.whole.now.trace)
@@ -96,6 +107,11 @@ fn record_cut<R: Threads + Sync>(
     hierarchy: &[u8],
     bytes: &[u8],
 ) -> Result<Recorded, RecordError>
+    requires assigned { IsAssignment run.now.whole.now.layout
+        run.now.whole.now.trace.messages run.now.whole.now.assigned }
+    requires reached { AreReached (course_by
+        (instance_under run.now.whole.now.layout run.now.whole.now.assigned run.now.whole.now.trace)
+        run.now.workers run.now.tick) run.now.turns.now }
     requires left { AreLeft run.now.turns.now run.now.but kept.now }
     requires timings { plan.now.timings ≡ timings_of run.now.whole.now.trace.messages }
     requires fits { cut.now.sizes ≡ sizes_of run.now.whole.now.layout.spaces }
@@ -157,6 +173,11 @@ fn record_case<R: Threads + Sync>(
     hierarchy: &[u8],
     bytes: &[u8],
 ) -> Result<Recorded, RecordError>
+    requires assigned { IsAssignment run.now.whole.now.layout
+        run.now.whole.now.trace.messages run.now.whole.now.assigned }
+    requires reached { AreReached (course_by
+        (instance_under run.now.whole.now.layout run.now.whole.now.assigned run.now.whole.now.trace)
+        run.now.workers run.now.tick) run.now.turns.now }
     requires left { AreLeft run.now.turns.now run.now.but kept.now }
     requires cut { IsCutTo run.now.whole.now.trace kept.now case.trace.now }
     requires tree { case.tree.now ≡ run.now.whole.now.layout.tree }

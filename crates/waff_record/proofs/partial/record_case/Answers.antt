@@ -7,7 +7,7 @@ use Rattle.waff_record.proofs.partial.record_case.Goals as goal
 pub record_of-requires : goal.record_of-requires
 record_of-requires g c = record {
   ran =
-      stopped_run c.args.run.now c.args.kept.now c.args.case c.requires.left c.requires.cut c.requires.tree c.len-affinities.ensures.tree c.requires.assignment
+      stopped_run c.args.run.now c.args.kept.now c.args.case c.requires.assigned c.requires.reached c.requires.left c.requires.cut c.requires.tree c.len-affinities.ensures.tree c.requires.assignment
       (are_timings c.args.case.trace.now c.len-messages.ensures.trace)
       (λ course is. record {
         plan = c.run_is_worker_plan.ensures course is;
@@ -22,7 +22,7 @@ pub returns : goal.returns
 returns g c =
     IfOk-weaker c.record_of.result _ _
     (λ told texts.
-    stopped_told c.args.run.now c.args.kept.now c.args.case c.requires.left c.requires.cut c.requires.tree c.len-affinities.ensures.tree c.requires.assignment
+    stopped_told c.args.run.now c.args.kept.now c.args.case c.requires.assigned c.requires.reached c.requires.left c.requires.cut c.requires.tree c.len-affinities.ensures.tree c.requires.assignment
     (are_timings c.args.case.trace.now c.len-messages.ensures.trace)
     (λ course is. record {
       plan = c.run_is_worker_plan.ensures course is;
