@@ -5,7 +5,7 @@ use Rattle.std.proofs.lemmas.List.{get_or_append_left, get_or_push, length_push}
 use Rattle.std.proofs.lemmas.List.Elements.{Contains-append_left, Contains-get_or, Contains-push, Contains-push_cases}
 use Rattle.waff_model.specs.Numbers.{IsAmongFirst}
 use Rattle.waff_line.specs.declared.turn.Turn.{Turn}
-use Rattle.waff_record.specs.Left.{AreLeftOf, IsLeft}
+use Rattle.waff_record.specs.Left.{AreLeft, AreLeftOf, IsLeft}
 
 module _ (turns : List Turn) (but : ℕ) where
   pub left_none : AreLeftOf turns but 0 []
@@ -14,27 +14,27 @@ module _ (turns : List Turn) (but : ℕ) where
     rising = λ p q less within. absurd (omega (arith, within));
   }
 
-  pub left_same : (n : ℕ) (kept : List ℕ) → 1 ≤ n → AreLeftOf turns but (n - 1) kept → (IsLeft turns but n → ⊥) → AreLeftOf turns but n kept
-  left_same n kept from old never = record {
+  pub left_same : (at : ℕ) (kept : List ℕ) → (IsLeft turns but (at + 1) → ⊥) → AreLeftOf turns but at kept → AreLeftOf turns but (at + 1) kept
+  left_same at kept never old = record {
     each = λ m. (
       λ has. let known = (old.each m).0 has in (known.0, omega (arith, known.1)),
       λ both.
-          let other : m ≢ n = λ same. never (subst (IsLeft turns but) same both.0) in
+          let other : m ≢ at + 1 = λ same. never (subst (IsLeft turns but) same both.0) in
           (old.each m).1 (both.0, omega (arith, both.1, other)),
     );
     rising = old.rising;
   }
 
-  pub left_more : (n : ℕ) (kept : List ℕ) → 1 ≤ n → AreLeftOf turns but (n - 1) kept → IsLeft turns but n → AreLeftOf turns but n (kept ++ n ∷ [])
-  left_more n kept from old here = record {
+  pub left_more : (at n : ℕ) (kept : List ℕ) → n ≡ at + 1 → IsLeft turns but n → AreLeftOf turns but at kept → AreLeftOf turns but (at + 1) (kept ++ n ∷ [])
+  left_more at n kept is here old = record {
     each = λ m. (
       λ has. elim (Contains-push_cases kept n m has) [
         | inl before ↦ let known = (old.each m).0 before in (known.0, omega (arith, known.1))
-        | inr same ↦ (subst (IsLeft turns but) same here, omega (arith, same))
+        | inr same ↦ (subst (IsLeft turns but) same here, omega (arith, same, is))
       ],
       λ both. elim (cases_eq m n) [
         | inl same ↦ subst (λ x. Contains (kept ++ n ∷ []) x) (sym same) (Contains-push kept n)
-        | inr other ↦ Contains-append_left kept (n ∷ []) m ((old.each m).1 (both.0, omega (arith, both.1, other)))
+        | inr other ↦ Contains-append_left kept (n ∷ []) m ((old.each m).1 (both.0, omega (arith, both.1, other, is)))
       ],
     );
     rising = λ p q less within.
@@ -48,6 +48,15 @@ module _ (turns : List Turn) (but : ℕ) where
           | inr behind ↦
               let last : get_or (kept ++ n ∷ []) q 0 ≡ n = get_or_push kept n 0 q (omega (arith, behind, within, long)) in
               let known = ((old.each (get_or kept p 0)).0 (Contains-get_or kept p 0 first)).1 in
-              omega (arith, one, last, known, from)
+              omega (arith, one, last, known, is)
         ];
+  }
+
+  pub left_all : (at : ℕ) (kept : List ℕ) → length turns ≤ at → AreLeftOf turns but at kept → AreLeft turns but kept
+  left_all at kept past old = record {
+    each = λ n. (
+      λ has. let known = (old.each n).0 has in (known.0, known.0.number.to),
+      λ both. (old.each n).1 (both.0, omega (arith, both.1, past)),
+    );
+    rising = old.rising;
   }

@@ -1,6 +1,6 @@
 //! What is left of a run that was stopped: the messages that had ended by then.
 
-ghost use Rattle.std.specs.Prelude.{◌≡◌, ◌≤◌, ◌-◌, IfOk, IsTrue, OnOk, ◌↔◌, length};
+ghost use Rattle.std.specs.Prelude.{◌≡◌, ◌<◌, ◌≤◌, ◌+◌, IfOk, IsTrue, OnOk, ◌↔◌, length};
 ghost use Rattle.waff_model.specs.Numbers.{IsAmongFirst};
 ghost use Rattle.waff_model.specs.declared.limits.TheConstants.{MAX_MESSAGES};
 ghost use Rattle.waff_plan.specs.Bound.{IsWorkers};
@@ -25,25 +25,26 @@ pub struct StoppedRun<'a> {
 }
 
 /// The numbers of the messages that are left.
+#[tactic(auto, using(crate::proofs::LeftOf::left_none))]
 pub(crate) fn numbers_left(alloc: Global, turns: &[Turn], but: u32) -> Result<Vec<u32>, AllocError>
     requires few { length turns.now ≤ MAX_MESSAGES }
     ensures { IfOk result (λ kept. AreLeft turns.now but kept.items) }
 {
     let mut kept = Vec::new(alloc);
     for at in 0..turns.len() as u32 {
-        note_left(&mut kept, turns, at + 1, but)?;
+        note_left(&mut kept, turns, at, but)?;
     }
     Ok(kept)
 }
 
-/// Notes message `n` behind those that are left of the messages before it, where it is left.
-fn note_left(kept: &mut Vec<u32>, turns: &[Turn], n: u32, but: u32) -> Result<(), AllocError>
-    requires number { IsAmongFirst (length turns.now) n }
-    ensures { OnOk result (AreLeftOf turns.now but (n - 1) kept.old.items
-        → AreLeftOf turns.now but n kept.new.items) }
+/// Notes the message behind so many, where it is left, behind those that are left of these.
+fn note_left(kept: &mut Vec<u32>, turns: &[Turn], at: u32, but: u32) -> Result<(), AllocError>
+    requires within { at < length turns.now }
+    ensures { OnOk result (AreLeftOf turns.now but at kept.old.items
+        → AreLeftOf turns.now but (at + 1) kept.new.items) }
 {
-    if is_left(turns, n, but) {
-        kept.push(n)?;
+    if is_left(turns, at + 1, but) {
+        kept.push(at + 1)?;
     }
     Ok(())
 }
