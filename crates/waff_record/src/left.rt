@@ -40,6 +40,7 @@ pub(crate) fn numbers_left(alloc: Global, turns: &[Turn], but: u32) -> Result<Ve
 /// Notes the message behind so many, where it is left, behind those that are left of these.
 fn note_left(kept: &mut Vec<u32>, turns: &[Turn], at: u32, but: u32) -> Result<(), AllocError>
     requires within { at < length turns.now }
+    requires few { length turns.now ≤ MAX_MESSAGES }
     ensures { OnOk result (AreLeftOf turns.now but at kept.old.items
         → AreLeftOf turns.now but (at + 1) kept.new.items) }
 {
