@@ -613,8 +613,8 @@ the run with status 3: then the trace needs a larger tick.
 
 Of a run that breaks off, by such a message or by a file that fails, nothing is
 told, and no FILE is made. With --partial the messages that had ended are told,
-and FILE is the trace cut down to them; then the line and the status of the fault
-follow. A signal ends a run at once, and nothing is told: where files have a
+and FILE is the trace cut down to them; then the line of the fault follows, and
+its status. A signal ends a run at once, and nothing is told: where files have a
 limit of size, trap '' XFSZ in the shell makes a fault of its signal.",
         "Exit status:\n  0  done"
     ),
