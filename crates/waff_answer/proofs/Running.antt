@@ -15,7 +15,6 @@ use Rattle.waff_read.specs.Hierarchies.{hierarchy_of}
 use Rattle.waff_run.specs.Faults.{IsOfOpening, IsOfRunning, Told}
 use Rattle.waff_run.specs.Opening.{job_of}
 use Rattle.waff_run.specs.Places.{Placing, placing_of}
-use Rattle.waff_run.specs.Texts.{message_of_tick}
 use Rattle.waff_cli.specs.declared.task.RunTask.{RunTask}
 use Rattle.waff_run.specs.declared.fault.RunError.{RunError}
 use Rattle.waff_run.specs.declared.fault.RunError.TheVariants as run
@@ -30,7 +29,7 @@ leaves_part hierarchy_file trace_file wanted error text drift old new is fault (
 
 -- the same of what is left of one
 pub leaves_left : (hierarchy_file trace_file : List ℕ) (wanted : RunTask) (error : RunError) (text : List ℕ) (drift : Option ℕ) (old new : Option (List ℕ))
-    → wanted.words.partial ≡ true → IsPartText hierarchy_file trace_file wanted.words.workers wanted.words.tick (message_of_tick error) text drift
+    → wanted.words.partial ≡ true → IsPartText hierarchy_file trace_file wanted.words.workers wanted.words.tick text drift
     → Keeps old new ⊎ AppendsPart old new text → LeavesPart hierarchy_file trace_file wanted error None old new
 leaves_left hierarchy_file trace_file wanted error text drift old new so is (inl keeps) = inr (refl, inl keeps)
 leaves_left hierarchy_file trace_file wanted error text drift old new so is (inr part) = inr (refl, inr (text, drift, inr (so, is), part))

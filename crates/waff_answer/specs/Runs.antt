@@ -12,7 +12,7 @@ use Rattle.waff_model.specs.Messages.{Arrivals}
 use Rattle.waff_run.specs.Faults.{IsOfRun, Told}
 use Rattle.waff_run.specs.Opening.{job_of}
 use Rattle.waff_run.specs.Places.{placing_of}
-use Rattle.waff_run.specs.Texts.{TellPart, TellRun, message_of_tick}
+use Rattle.waff_run.specs.Texts.{TellPart, TellRun}
 use Rattle.waff_run.specs.declared.fault.RunError.{RunError}
 use Rattle.waff_run.specs.declared.fault.RunError.TheVariants as run
 use Rattle.waff_cli.specs.declared.task.RunTask.{RunTask}
@@ -31,13 +31,13 @@ pub record IsRunText (hierarchy_file trace_file : List ℕ) (k tick : ℕ) (text
   pub measured : List ℕ
   pub texts : TellRun hierarchy_file instance k tick measured text drift
 
--- the text tells what is left of such a run that broke off for a message, 0 for none
-pub record IsPartText (hierarchy_file trace_file : List ℕ) (k tick but : ℕ) (text : List ℕ)
+-- the text tells what is left of such a run that broke off
+pub record IsPartText (hierarchy_file trace_file : List ℕ) (k tick : ℕ) (text : List ℕ)
     (drift : Option ℕ) : Type 0 where
   pub instance : Instance
   pub accepts : Accepts hierarchy_file trace_file instance
   pub measured : List ℕ
-  pub texts : TellPart hierarchy_file instance k tick but measured text drift
+  pub texts : TellPart hierarchy_file instance k tick measured text drift
 
 -- the line that tells that what is told is longer than the run was
 abbrev pub drift_message : Option ℕ → List ℕ
@@ -104,8 +104,7 @@ pub record IsLeftOnOutput (hierarchy_file trace_file : List ℕ) (wanted : RunTa
     (out new_out : Option (List ℕ)) : Type 0 where
   pub wanted_so : wanted.words.partial ≡ true
   pub text : List ℕ
-  pub is_text : IsPartText hierarchy_file trace_file wanted.words.workers wanted.words.tick (message_of_tick error)
-      text drift
+  pub is_text : IsPartText hierarchy_file trace_file wanted.words.workers wanted.words.tick text drift
   pub written : Appends out new_out text
 
 -- the output failed, and has a part of the text of a run, from its front; or of what is left of one, where that is wanted
@@ -115,7 +114,7 @@ HasPart hierarchy_file trace_file wanted error out new_out =
     × (((error ≡ run.Tool tool.Write)
     × IsRunText hierarchy_file trace_file wanted.words.workers wanted.words.tick text drift)
     ⊎ ((wanted.words.partial ≡ true)
-    × IsPartText hierarchy_file trace_file wanted.words.workers wanted.words.tick (message_of_tick error) text drift))
+    × IsPartText hierarchy_file trace_file wanted.words.workers wanted.words.tick text drift))
     × AppendsPart out new_out text
 
 -- where there is no run to its end, the output has what is left of one, where that is wanted, and its drift is told; or no drift

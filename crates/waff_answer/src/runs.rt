@@ -8,7 +8,7 @@ ghost use Rattle.waff_inputs.specs.Inputs.{instance_under};
 ghost use Rattle.waff_inputs.specs.declared.fault.ToolError.TheVariants as tool;
 ghost use Rattle.waff_run.specs.Faults.{IsOfRunning};
 ghost use Rattle.waff_run.specs.Opening.{job_of, told_of};
-ghost use Rattle.waff_run.specs.Texts.{TellPart, TellRun, message_of_tick};
+ghost use Rattle.waff_run.specs.Texts.{TellPart, TellRun};
 ghost use Rattle.waff_answer.specs.Answers.{bytes_of, first, second};
 ghost use Rattle.waff_answer.specs.Runs.{EndsRun, IsOfTask, IsPartText, IsRunText, LeavesPart, RefusesRun, drift_message};
 ghost use Rattle.waff_answer.specs.Runs.{run_message, run_status, told_by};
@@ -285,7 +285,7 @@ fn write_left<R: Files, W: Write>(
 ) -> Fallen
     requires wanted { task.now.words.partial ≡ true }
     requires told { IsPartText (first (bytes_of task.now.files.items)) (second (bytes_of task.now.files.items))
-        task.now.words.workers task.now.words.tick (message_of_tick error)
+        task.now.words.workers task.now.words.tick
         (string_bytes left.told.text) left.told.drift }
     ensures error { result.error ≡ error }
     ensures part { LeavesPart (first (bytes_of task.now.files.items))
@@ -351,8 +351,7 @@ fn ran<R: Threads + Wait + Clock + Files + Opens + Eprint + Sync>(
     ensures refused { IfErr result (λ broke. RefusesRun (first (bytes_of task.now.files.items))
         (second (bytes_of task.now.files.items)) task.now broke.error) }
     ensures left { IfErr result (λ broke. IfSome broke.left (λ left. IsPartText (first (bytes_of task.now.files.items))
-        (second (bytes_of task.now.files.items)) task.now.words.workers task.now.words.tick
-        (message_of_tick broke.error) (string_bytes left.told.text) left.told.drift)) }
+        (second (bytes_of task.now.files.items)) task.now.words.workers task.now.words.tick (string_bytes left.told.text) left.told.drift)) }
     ensures wanted { IfErr result (λ broke. IfSome broke.left (λ _. task.now.words.partial ≡ true)) }
 {
     let files = task.files.as_slice();
@@ -393,7 +392,7 @@ fn ran_on_files<R: Threads + Wait + Clock + Files + Opens + Eprint + Sync>(
     ensures refused { IfErr result (λ broke. IsOfTask accepted.now.layout accepted.now.trace task.now broke.error) }
     ensures left { IfErr result (λ broke. IfSome broke.left (λ left. TellPart hierarchy.now
         (instance_under accepted.now.layout accepted.now.assigned accepted.now.trace)
-        task.now.words.workers task.now.words.tick (message_of_tick broke.error) (string_bytes left.told.measured)
+        task.now.words.workers task.now.words.tick (string_bytes left.told.measured)
         (string_bytes left.told.text) left.told.drift)) }
     ensures wanted { IfErr result (λ broke. IfSome broke.left (λ _. task.now.words.partial ≡ true)) }
 {
@@ -456,7 +455,7 @@ fn ran_on_store<R: Threads + Wait + Clock + Eprint + Sync>(
         (job_of accepted.now.layout places.now accepted.now.trace) settings.now.pace.workers broken.error) }
     ensures left { IfErr result (λ broken. IfSome broken.told (λ told. TellPart hierarchy.now
         (instance_under accepted.now.layout accepted.now.assigned accepted.now.trace)
-        settings.now.pace.workers settings.now.pace.tick (message_of_tick broken.error)
+        settings.now.pace.workers settings.now.pace.tick
         (string_bytes told.measured) (string_bytes told.text) told.drift)) }
     ensures wanted { IfErr result (λ broken. IfSome broken.told (λ _. settings.now.partial ≡ true)) }
 {

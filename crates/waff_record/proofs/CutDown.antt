@@ -26,16 +26,16 @@ use Rattle.waff_record.proofs.LeftRuns.{left_is_run, turns_reached}
 use Rattle.waff_record.proofs.Planned.{AreLaws}
 
 -- those that are left are among all messages
-pub left_among : (instance : Instance) (k tick : ℕ) (turns : List Turn) (but : ℕ) (kept : List ℕ) → AreReached (course_by instance k tick) turns
-    → AreLeft turns but kept → (m : ℕ) → IsAmongFirst (length kept) m → IsAmongFirst (length instance.trace.messages) (number_at kept m)
-left_among instance k tick turns but kept there left m among =
+pub left_among : (instance : Instance) (k tick : ℕ) (turns : List Turn) (kept : List ℕ) → AreReached (course_by instance k tick) turns
+    → AreLeft turns tick kept → (m : ℕ) → IsAmongFirst (length kept) m → IsAmongFirst (length instance.trace.messages) (number_at kept m)
+left_among instance k tick turns kept there left m among =
     let number = ((left.each (number_at kept m)).0 (Contains-get_or kept (m - 1) 0 (omega (arith, among.from, among.to)))).0.number in
     let many = turns_reached (course_by instance k tick) turns there in
     record { from = number.from; to = omega (arith, number.to, many, length-timings_of instance.trace.messages) }
 
 -- they have ended
-pub left_ended : (turns : List Turn) (but : ℕ) (kept : List ℕ) → AreLeft turns but kept → All (λ turn. turn.ended ≡ true) (turns_kept turns kept)
-left_ended turns but kept left p d within =
+pub left_ended : (turns : List Turn) (tick : ℕ) (kept : List ℕ) → AreLeft turns tick kept → All (λ turn. turn.ended ≡ true) (turns_kept turns kept)
+left_ended turns tick kept left p d within =
     let less : p < length kept = omega (arith, within, length-map kept (turn_at turns)) in
     subst (λ (turn : Turn). turn.ended ≡ true) (sym (get_or-map (turn_at turns) kept p 0 d less))
     ((left.each (get_or kept p 0)).0 (Contains-get_or kept p 0 less)).0.ended
@@ -67,10 +67,10 @@ module _ (layout : Hierarchy) (tree : List Node) (same : tree ≡ layout.tree) (
   }
 
 -- the turns of those that are left
-pub left_run : (instance : Instance) (k tick : ℕ) (turns : List Turn) (but : ℕ) (kept : List ℕ) (cut : Instance)
+pub left_run : (instance : Instance) (k tick : ℕ) (turns : List Turn) (kept : List ℕ) (cut : Instance)
     → IsCourse (course_by cut k tick) → AreLaws (course_by cut k tick) → AwaitsEarlier (work_of_messages cut.trace.messages)
-    → AreReached (course_by instance k tick) turns → AreLeft turns but kept → IsCutDown instance kept cut
+    → AreReached (course_by instance k tick) turns → AreLeft turns tick kept → IsCutDown instance kept cut
     → (left : List Turn) → left ≡ turns_kept turns kept → AreRunTurns (course_by cut k tick) left
-left_run instance k tick turns but kept cut is laws earlier there left down found same =
-    run_turns (course_by cut k tick) is laws (turns_kept turns kept) found (left_is_run instance k tick turns but kept cut earlier there left down)
-    (left_ended turns but kept left) same
+left_run instance k tick turns kept cut is laws earlier there left down found same =
+    run_turns (course_by cut k tick) is laws (turns_kept turns kept) found (left_is_run instance k tick turns kept cut earlier there left down)
+    (left_ended turns tick kept left) same

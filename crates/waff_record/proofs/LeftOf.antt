@@ -7,30 +7,30 @@ use Rattle.waff_model.specs.Numbers.{IsAmongFirst}
 use Rattle.waff_line.specs.declared.turn.Turn.{Turn}
 use Rattle.waff_record.specs.Left.{AreLeft, AreLeftOf, IsLeft}
 
-module _ (turns : List Turn) (but : ℕ) where
-  pub left_none : AreLeftOf turns but 0 []
+module _ (turns : List Turn) (tick : ℕ) where
+  pub left_none : AreLeftOf turns tick 0 []
   left_none = record {
     each = λ n. (λ has. absurd (omega (arith, has.1.0)), λ both. absurd (omega (arith, both.0.number.from, both.1)));
     rising = λ p q less within. absurd (omega (arith, within));
   }
 
-  pub left_same : (at : ℕ) (kept : List ℕ) → (IsLeft turns but (at + 1) → ⊥) → AreLeftOf turns but at kept → AreLeftOf turns but (at + 1) kept
+  pub left_same : (at : ℕ) (kept : List ℕ) → (IsLeft turns tick (at + 1) → ⊥) → AreLeftOf turns tick at kept → AreLeftOf turns tick (at + 1) kept
   left_same at kept never old = record {
     each = λ m. (
       λ has. let known = (old.each m).0 has in (known.0, omega (arith, known.1)),
       λ both.
-          let other : m ≢ at + 1 = λ same. never (subst (IsLeft turns but) same both.0) in
+          let other : m ≢ at + 1 = λ same. never (subst (IsLeft turns tick) same both.0) in
           (old.each m).1 (both.0, omega (arith, both.1, other)),
     );
     rising = old.rising;
   }
 
-  pub left_more : (at n : ℕ) (kept : List ℕ) → n ≡ at + 1 → IsLeft turns but n → AreLeftOf turns but at kept → AreLeftOf turns but (at + 1) (kept ++ n ∷ [])
+  pub left_more : (at n : ℕ) (kept : List ℕ) → n ≡ at + 1 → IsLeft turns tick n → AreLeftOf turns tick at kept → AreLeftOf turns tick (at + 1) (kept ++ n ∷ [])
   left_more at n kept is here old = record {
     each = λ m. (
       λ has. elim (Contains-push_cases kept n m has) [
         | inl before ↦ let known = (old.each m).0 before in (known.0, omega (arith, known.1))
-        | inr same ↦ (subst (IsLeft turns but) same here, omega (arith, same, is))
+        | inr same ↦ (subst (IsLeft turns tick) same here, omega (arith, same, is))
       ],
       λ both. elim (cases_eq m n) [
         | inl same ↦ subst (λ x. Contains (kept ++ n ∷ []) x) (sym same) (Contains-push kept n)
@@ -52,7 +52,7 @@ module _ (turns : List Turn) (but : ℕ) where
         ];
   }
 
-  pub left_all : (at : ℕ) (kept : List ℕ) → length turns ≤ at → AreLeftOf turns but at kept → AreLeft turns but kept
+  pub left_all : (at : ℕ) (kept : List ℕ) → length turns ≤ at → AreLeftOf turns tick at kept → AreLeft turns tick kept
   left_all at kept past old = record {
     each = λ n. (
       λ has. let known = (old.each n).0 has in (known.0, known.0.number.to),

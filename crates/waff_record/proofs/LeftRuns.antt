@@ -43,8 +43,8 @@ issued_scaled kept tick work cut k is = record {
   awaits = scaled_there kept tick (cut.awaits k) ∙ ap (awaits_scaled tick) is.awaits;
 }
 
-module _ (instance : Instance) (k tick : ℕ) (turns : List Turn) (but : ℕ) (kept : List ℕ) (cut : Instance)
-    (earlier : AwaitsEarlier (work_of_messages cut.trace.messages)) (there : AreReached (course_by instance k tick) turns) (left : AreLeft turns but kept)
+module _ (instance : Instance) (k tick : ℕ) (turns : List Turn) (kept : List ℕ) (cut : Instance)
+    (earlier : AwaitsEarlier (work_of_messages cut.trace.messages)) (there : AreReached (course_by instance k tick) turns) (left : AreLeft turns tick kept)
     (is : IsCutDown instance kept cut) where
   courses : AreCourses kept (course_by instance k tick) (course_by cut k tick)
   courses = record {
@@ -79,6 +79,6 @@ module _ (instance : Instance) (k tick : ℕ) (turns : List Turn) (but : ℕ) (k
             ∙ sym (both.turn (suc p) number))));
       }
 
-pub left_is_run : (instance : Instance) (k tick : ℕ) (turns : List Turn) (but : ℕ) (kept : List ℕ) (cut : Instance)
-    → AwaitsEarlier (work_of_messages cut.trace.messages) → LeftIsRun instance k tick turns but kept cut
-left_is_run instance k tick turns but kept cut earlier there left is = left_reached instance k tick turns but kept cut earlier there left is
+pub left_is_run : (instance : Instance) (k tick : ℕ) (turns : List Turn) (kept : List ℕ) (cut : Instance)
+    → AwaitsEarlier (work_of_messages cut.trace.messages) → LeftIsRun instance k tick turns kept cut
+left_is_run instance k tick turns kept cut earlier there left is = left_reached instance k tick turns kept cut earlier there left is

@@ -22,26 +22,26 @@ abbrev pub whole_of : StoppedRun → Instance
 whole_of run = instance_under run.whole.now.layout run.whole.now.assigned run.whole.now.trace
 
 module _ (run : StoppedRun) (kept : List ℕ) (case : Case) (holds : IsAssignment run.whole.now.layout run.whole.now.trace.messages run.whole.now.assigned)
-    (reached : AreReached (course_by (whole_of run) run.workers run.tick) run.turns.now) (left : AreLeft run.turns.now run.but kept) (cut : IsCutTo run.whole.now.trace kept case.trace.now)
+    (reached : AreReached (course_by (whole_of run) run.workers run.tick) run.turns.now) (left : AreLeft run.turns.now run.tick kept) (cut : IsCutTo run.whole.now.trace kept case.trace.now)
     (tree : case.tree.now ≡ run.whole.now.layout.tree) (is_tree : IsTree case.tree.now)
     (assigned : IsAssignment run.whole.now.layout case.trace.now.messages case.assigned.now)
     (timings : AreTimings case.trace.now.version (timings_of case.trace.now.messages)) (laws : (course : Course) → IsCourse course → AreLaws course) where
   down : IsCutDown (whole_of run) kept (instance_of case)
   down =
       cut_down run.whole.now.layout case.tree.now tree is_tree run.whole.now.trace case.trace.now run.whole.now.assigned case.assigned.now kept cut
-      (left_among (whole_of run) run.workers run.tick run.turns.now run.but kept reached left) holds assigned
+      (left_among (whole_of run) run.workers run.tick run.turns.now kept reached left) holds assigned
 
   course_is : IsCourse (course_by (instance_of case) run.workers run.tick)
   course_is = is_course_by (instance_of case) run.workers run.tick timings case.lengths run.staffed.from
 
   pub stopped_run : (turns : List Turn) → turns ≡ turns_kept run.turns.now kept → AreRunTurns (course_by (instance_of case) run.workers run.tick) turns
   stopped_run turns same =
-      left_run (whole_of run) run.workers run.tick run.turns.now run.but kept (instance_of case) course_is
+      left_run (whole_of run) run.workers run.tick run.turns.now kept (instance_of case) course_is
       (laws (course_by (instance_of case) run.workers run.tick) course_is) timings.earlier reached left down turns same
 
   pub stopped_told : (hierarchy measured text : List ℕ) (drift : Option ℕ) (turns : List Turn) → turns ≡ turns_kept run.turns.now kept
       → AreRunTexts hierarchy (instance_of case) run.workers run.tick turns measured text drift
-      → TellLeft hierarchy (whole_of run) run.workers run.tick run.turns.now run.but measured text drift
+      → TellLeft hierarchy (whole_of run) run.workers run.tick run.turns.now measured text drift
   stopped_told hierarchy measured text drift turns same texts = record {
     kept = kept;
     left = left;

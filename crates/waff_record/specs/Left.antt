@@ -1,6 +1,7 @@
 -- What is left of a run that was stopped: the messages that had ended by then, and the trace cut down to them.
-use Rattle.std.specs.Prelude.{◌≡◌, ◌≢◌, ◌↔◌, ℕ, ◌-◌, ◌<◌, ◌≤◌, true, List, Contains, Option, length, map, slice_index, slice_index_or}
+use Rattle.std.specs.Prelude.{◌≡◌, ◌↔◌, ℕ, ◌-◌, ◌*◌, ◌<◌, ◌≤◌, true, List, Contains, Option, length, map, slice_index, slice_index_or}
 use Rattle.waff_model.specs.Messages.{Arrivals}
+use Rattle.waff_model.specs.declared.limits.TheConstants.{MAX_COST}
 use Rattle.waff_model.specs.declared.message.Message.{Message}
 use Rattle.waff_assign.specs.Held.{ExcludeEachOther}
 use Rattle.waff_assign.specs.Instance.{Instance}
@@ -10,22 +11,25 @@ use Rattle.waff_plan.specs.Work.{Await, IsAmongFirst, Work}
 use Rattle.waff_line.specs.Turns.{AreReached, AreRunTurns, course_by}
 use Rattle.waff_line.specs.declared.turn.Turn.{Turn}
 use Rattle.waff_record.specs.Runs.{AreRunTexts}
+use Rattle.waff_record.specs.declared.rounding.TheConstants.{MAX_RUN}
 use Rattle.waff_record.specs.Turns.{turn_at}
 
--- message n is left: it had ended, and it is not this one, for which the run was stopped
-pub record IsLeft (turns : List Turn) (but n : ℕ) : Type 0 where
+-- message n is left: it had ended, after no more than as many ticks of so many nanoseconds as a trace can tell, and no later
+-- than a run may last. So a message for which the run was stopped, since it ran for too many ticks, is not
+pub record IsLeft (turns : List Turn) (tick n : ℕ) : Type 0 where
   pub number : IsAmongFirst (length turns) n
   pub ended : (turn_at turns n).ended ≡ true
-  pub other : n ≢ but
+  pub brief : (turn_at turns n).finish - (turn_at turns n).start ≤ MAX_COST * tick
+  pub timely : (turn_at turns n).finish ≤ MAX_RUN * tick
 
 -- these are the numbers of those of the first messages, so many, that are left, in order
-pub record AreLeftOf (turns : List Turn) (but count : ℕ) (kept : List ℕ) : Type 0 where
-  pub each : (n : ℕ) → Contains kept n ↔ IsLeft turns but n × (n ≤ count)
+pub record AreLeftOf (turns : List Turn) (tick count : ℕ) (kept : List ℕ) : Type 0 where
+  pub each : (n : ℕ) → Contains kept n ↔ IsLeft turns tick n × (n ≤ count)
   pub rising : (p q : ℕ) → p < q → q < length kept → slice_index kept p < slice_index kept q
 
 -- of all
 abbrev pub AreLeft : List Turn → ℕ → List ℕ → Type 0
-AreLeft turns but kept = AreLeftOf turns but (length turns) kept
+AreLeft turns tick kept = AreLeftOf turns tick (length turns) kept
 
 -- the number, among all messages, of message k of those that are kept, from 1
 abbrev pub number_at : List ℕ → ℕ → ℕ
@@ -73,18 +77,18 @@ pub record IsCutDown (instance : Instance) (kept : List ℕ) (cut : Instance) : 
       (held_of instance.assigned (number_at kept j))
 
 -- texts tell what is left of a run of an instance by k workers, in ticks of so many nanoseconds, which has these turns and was
--- stopped for a message, 0 for none: they tell a run of the messages that are left
-pub record TellLeft (hierarchy_file : List ℕ) (ran : Instance) (k tick : ℕ) (turns : List Turn) (but : ℕ)
+-- stopped: they tell a run of the messages that are left
+pub record TellLeft (hierarchy_file : List ℕ) (ran : Instance) (k tick : ℕ) (turns : List Turn)
     (measured_file text : List ℕ) (drift : Option ℕ) : Type 0 where
   pub kept : List ℕ
-  pub left : AreLeft turns but kept
+  pub left : AreLeft turns tick kept
   pub cut : Instance
   pub is_cut : IsCutDown ran kept cut
   pub run : AreRunTurns (course_by cut k tick) (turns_kept turns kept)
   pub texts : AreRunTexts hierarchy_file cut k tick (turns_kept turns kept) measured_file text drift
 
 -- the turns of the messages that are left of a run are those of a run of them alone
-abbrev pub LeftIsRun : Instance → ℕ → ℕ → List Turn → ℕ → List ℕ → Instance → Type 0
-LeftIsRun instance k tick turns but kept cut =
-    AreReached (course_by instance k tick) turns → AreLeft turns but kept → IsCutDown instance kept cut
+abbrev pub LeftIsRun : Instance → ℕ → ℕ → List Turn → List ℕ → Instance → Type 0
+LeftIsRun instance k tick turns kept cut =
+    AreReached (course_by instance k tick) turns → AreLeft turns tick kept → IsCutDown instance kept cut
     → AreReached (course_by cut k tick) (turns_kept turns kept)

@@ -27,6 +27,6 @@ pub fn rounding_is_one()
 /// The turns of the messages that are left of a run that was stopped are those of a run of them alone, of the trace that is cut
 /// down to them.
 pub fn left_is_run()
-    ensures { (instance : Instance) (k tick : ℕ) (turns : List Turn) (but : ℕ) (kept : List ℕ) (cut : Instance)
-        → AwaitsEarlier (work_of_messages cut.trace.messages) → LeftIsRun instance k tick turns but kept cut }
+    ensures { (instance : Instance) (k tick : ℕ) (turns : List Turn) (kept : List ℕ) (cut : Instance)
+        → AwaitsEarlier (work_of_messages cut.trace.messages) → LeftIsRun instance k tick turns kept cut }
 {}

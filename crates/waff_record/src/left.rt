@@ -1,23 +1,24 @@
 //! What is left of a run that was stopped: the messages that had ended by then.
 
-ghost use Rattle.std.specs.Prelude.{◌≡◌, ◌<◌, ◌≤◌, ◌+◌, IfOk, IsTrue, OnOk, ◌↔◌, length};
+ghost use Rattle.std.specs.Prelude.{◌≡◌, ◌<◌, ◌≤◌, ◌+◌, ◌-◌, ◌*◌, IfOk, IsTrue, OnOk, ◌↔◌, length};
 ghost use Rattle.waff_model.specs.Numbers.{IsAmongFirst};
-ghost use Rattle.waff_model.specs.declared.limits.TheConstants.{MAX_MESSAGES};
+ghost use Rattle.waff_model.specs.declared.limits.TheConstants.{MAX_COST, MAX_MESSAGES};
 ghost use Rattle.waff_plan.specs.Bound.{IsWorkers};
 ghost use Rattle.waff_record.specs.Left.{AreLeft, AreLeftOf, IsLeft, turns_kept};
 ghost use Rattle.waff_record.specs.Turns.{turn_at};
+ghost use Rattle.waff_record.specs.declared.rounding.TheConstants.{MAX_RUN};
 
+use crate::rounding::MAX_RUN;
 use std::alloc::{AllocError, Global};
 use waff_inputs::Accepted;
 use waff_line::Turn;
+use waff_model::limits::MAX_COST;
 
-/// A run of the messages of accepted files that was stopped: its turns, some of which have not ended. It was stopped for a
-/// message, or for none, 0.
+/// A run of the messages of accepted files that was stopped: its turns, some of which have not ended.
 #[derive(Clone, Copy)]
 pub struct StoppedRun<'a> {
     pub whole: &'a Accepted,
     pub turns: &'a [Turn],
-    pub but: u32,
     pub workers: u32,
     pub tick: u32,
     pub ghost staffed: { IsWorkers workers },
@@ -26,37 +27,52 @@ pub struct StoppedRun<'a> {
 
 /// The numbers of the messages that are left.
 #[tactic(auto, using(crate::proofs::LeftOf::left_none))]
-pub(crate) fn numbers_left(alloc: Global, turns: &[Turn], but: u32) -> Result<Vec<u32>, AllocError>
+pub(crate) fn numbers_left(alloc: Global, turns: &[Turn], tick: u32) -> Result<Vec<u32>, AllocError>
     requires few { length turns.now ≤ MAX_MESSAGES }
-    ensures { IfOk result (λ kept. AreLeft turns.now but kept.items) }
+    ensures { IfOk result (λ kept. AreLeft turns.now tick kept.items) }
 {
     let mut kept = Vec::new(alloc);
     for at in 0..turns.len() as u32 {
-        note_left(&mut kept, turns, at, but)?;
+        note_left(&mut kept, turns, at, tick)?;
     }
     Ok(kept)
 }
 
 /// Notes the message behind so many, where it is left, behind those that are left of these.
-fn note_left(kept: &mut Vec<u32>, turns: &[Turn], at: u32, but: u32) -> Result<(), AllocError>
+fn note_left(kept: &mut Vec<u32>, turns: &[Turn], at: u32, tick: u32) -> Result<(), AllocError>
     requires within { at < length turns.now }
     requires few { length turns.now ≤ MAX_MESSAGES }
-    ensures { OnOk result (AreLeftOf turns.now but at kept.old.items
-        → AreLeftOf turns.now but (at + 1) kept.new.items) }
+    ensures { OnOk result (AreLeftOf turns.now tick at kept.old.items
+        → AreLeftOf turns.now tick (at + 1) kept.new.items) }
 {
-    if is_left(turns, at + 1, but) {
+    if is_left(turns, at + 1, tick) {
         kept.push(at + 1)?;
     }
     Ok(())
 }
 
 /// Whether message `n` is left.
-fn is_left(turns: &[Turn], n: u32, but: u32) -> bool
+fn is_left(turns: &[Turn], n: u32, tick: u32) -> bool
     requires number { IsAmongFirst (length turns.now) n }
-    ensures { IsTrue result ↔ IsLeft turns.now but n }
+    ensures { IsTrue result ↔ IsLeft turns.now tick n }
 {
     let turn = turn_of(turns, n);
-    turn.ended && n != but
+    turn.ended && is_brief(&turn, tick) && is_timely(&turn, tick)
+}
+
+/// Whether a message ran for no more ticks than a trace can tell.
+fn is_brief(turn: &Turn, tick: u32) -> bool
+    ensures { IsTrue result ↔ (turn.now.finish - turn.now.start ≤ MAX_COST * tick) }
+{
+    let ran = turn.finish.saturating_sub(turn.start);
+    u128::from(ran) <= u128::from(MAX_COST) * u128::from(tick)
+}
+
+/// Whether it ended no later than a run may last.
+fn is_timely(turn: &Turn, tick: u32) -> bool
+    ensures { IsTrue result ↔ (turn.now.finish ≤ MAX_RUN * tick) }
+{
+    u128::from(turn.finish) <= u128::from(MAX_RUN) * u128::from(tick)
 }
 
 /// The turns of the messages with these numbers.

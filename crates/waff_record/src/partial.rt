@@ -40,13 +40,13 @@ pub fn record_left<R: Threads + Sync>(
         run.now.workers run.now.tick) run.now.turns.now }
     ensures { IfOk result (λ told. TellLeft hierarchy.now
         (instance_under run.now.whole.now.layout run.now.whole.now.assigned run.now.whole.now.trace)
-        run.now.workers run.now.tick run.now.turns.now run.now.but
+        run.now.workers run.now.tick run.now.turns.now
         (string_bytes told.measured) (string_bytes told.text) told.drift) }
 {
     if run.turns.len() != run.whole.trace.len() as usize {
         return Err(RecordError::Refused);
     }
-    let kept = numbers_left(alloc, run.turns, run.but)?;
+    let kept = numbers_left(alloc, run.turns, run.tick)?;
     let told = record_kept(rt, alloc, run, kept.as_slice(), hierarchy, bytes);
     drop(kept);
     told
@@ -66,10 +66,10 @@ fn record_kept<R: Threads + Sync>(
     requires reached { AreReached (course_by
         (instance_under run.now.whole.now.layout run.now.whole.now.assigned run.now.whole.now.trace)
         run.now.workers run.now.tick) run.now.turns.now }
-    requires left { AreLeft run.now.turns.now run.now.but kept.now }
+    requires left { AreLeft run.now.turns.now run.now.tick kept.now }
     ensures { IfOk result (λ told. TellLeft hierarchy.now
         (instance_under run.now.whole.now.layout run.now.whole.now.assigned run.now.whole.now.trace)
-        run.now.workers run.now.tick run.now.turns.now run.now.but
+        run.now.workers run.now.tick run.now.turns.now
         (string_bytes told.measured) (string_bytes told.text) told.drift) }
 {
     let plan = Plan::unstarted(alloc, &run.whole.trace)?;
@@ -112,12 +112,12 @@ fn record_cut<R: Threads + Sync>(
     requires reached { AreReached (course_by
         (instance_under run.now.whole.now.layout run.now.whole.now.assigned run.now.whole.now.trace)
         run.now.workers run.now.tick) run.now.turns.now }
-    requires left { AreLeft run.now.turns.now run.now.but kept.now }
+    requires left { AreLeft run.now.turns.now run.now.tick kept.now }
     requires timings { plan.now.timings ≡ timings_of run.now.whole.now.trace.messages }
     requires fits { cut.now.sizes ≡ sizes_of run.now.whole.now.layout.spaces }
     ensures { IfOk result (λ told. TellLeft hierarchy.now
         (instance_under run.now.whole.now.layout run.now.whole.now.assigned run.now.whole.now.trace)
-        run.now.workers run.now.tick run.now.turns.now run.now.but
+        run.now.workers run.now.tick run.now.turns.now
         (string_bytes told.measured) (string_bytes told.text) told.drift) }
 {
     if !is_cut_of(alloc, run, kept, plan, cut)? {
@@ -178,14 +178,14 @@ fn record_case<R: Threads + Sync>(
     requires reached { AreReached (course_by
         (instance_under run.now.whole.now.layout run.now.whole.now.assigned run.now.whole.now.trace)
         run.now.workers run.now.tick) run.now.turns.now }
-    requires left { AreLeft run.now.turns.now run.now.but kept.now }
+    requires left { AreLeft run.now.turns.now run.now.tick kept.now }
     requires cut { IsCutTo run.now.whole.now.trace kept.now case.trace.now }
     requires tree { case.tree.now ≡ run.now.whole.now.layout.tree }
     requires assignment { IsAssignment run.now.whole.now.layout case.trace.now.messages case.assigned.now }
     requires turns { turns.now ≡ turns_kept run.now.turns.now kept.now }
     ensures { IfOk result (λ told. TellLeft hierarchy.now
         (instance_under run.now.whole.now.layout run.now.whole.now.assigned run.now.whole.now.trace)
-        run.now.workers run.now.tick run.now.turns.now run.now.but
+        run.now.workers run.now.tick run.now.turns.now
         (string_bytes told.measured) (string_bytes told.text) told.drift) }
 {
     laws::run_obeys();

@@ -11,8 +11,6 @@ use Rattle.waff_record.specs.Left.{TellLeft}
 use Rattle.waff_record.specs.Runs.{AreRunTexts}
 use Rattle.waff_run.specs.Hands.{Asking, asking_of}
 use Rattle.waff_run.specs.Places.{Placing}
-use Rattle.waff_run.specs.declared.fault.RunError.{RunError}
-use Rattle.waff_run.specs.declared.fault.RunError.TheVariants as run
 use Rattle.waff_run.specs.declared.running.Settings.{Settings}
 use Rattle.waff_run.specs.declared.syncing.Syncs.{Syncs}
 use Rattle.waff_run.specs.declared.syncing.Syncs.TheVariants as syncs
@@ -25,18 +23,13 @@ pub record TellRun (hierarchy_file : List ℕ) (instance : Instance) (workers ti
   pub ran : AreRunTurns (course_by instance workers tick) turns
   pub texts : AreRunTexts hierarchy_file instance workers tick turns measured_file text drift
 
--- texts tell what is left of a run of an instance by so many workers that broke off for a message, 0 for none: events of the
--- machine led to turns, and of these the messages are told that had ended
-pub record TellPart (hierarchy_file : List ℕ) (instance : Instance) (workers tick but : ℕ)
+-- texts tell what is left of a run of an instance by so many workers that broke off: events of the machine led to turns, and
+-- of these the messages are told that had ended
+pub record TellPart (hierarchy_file : List ℕ) (instance : Instance) (workers tick : ℕ)
     (measured_file text : List ℕ) (drift : Option ℕ) : Type 0 where
   pub turns : List Turn
   pub reached : AreReached (course_by instance workers tick) turns
-  pub left : TellLeft hierarchy_file instance workers tick turns but measured_file text drift
-
--- the message that ran for too long, where a run broke off for one; else 0
-abbrev pub message_of_tick : RunError → ℕ
-message_of_tick (run.Tick m) = m
-message_of_tick error = 0
+  pub left : TellLeft hierarchy_file instance workers tick turns measured_file text drift
 
 -- the message has one of these names
 abbrev pub is_named : {A : Type 0} → List (String A) → Message → Bool

@@ -11,7 +11,7 @@ ghost use Rattle.waff_run.specs.Files.{NamesFile};
 ghost use Rattle.waff_run.specs.Hands.{AreAsked, AreFresh};
 ghost use Rattle.waff_run.specs.Named.{cells_named};
 ghost use Rattle.waff_run.specs.Opening.{job_of};
-ghost use Rattle.waff_run.specs.Texts.{TellPart, TellRun, asking_by, is_named, message_of_tick, syncs_by};
+ghost use Rattle.waff_run.specs.Texts.{TellPart, TellRun, asking_by, is_named, syncs_by};
 
 use crate::calls::longest_call;
 use crate::fault::{RunError, Stopped};
@@ -93,7 +93,7 @@ pub fn run_on<R: Threads + Wait + Clock + Eprint + Sync, S: Store + Sync>(
         (job_of accepted.now.layout places.now accepted.now.trace) settings.now.pace.workers broken.error) }
     ensures left { IfErr result (λ broken. IfSome broken.told (λ told. TellPart hierarchy.now
         (instance_under accepted.now.layout accepted.now.assigned accepted.now.trace)
-        settings.now.pace.workers settings.now.pace.tick (message_of_tick broken.error)
+        settings.now.pace.workers settings.now.pace.tick
         (string_bytes told.measured) (string_bytes told.text) told.drift)) }
     ensures wanted { IfErr result (λ broken. IfSome broken.told (λ _. settings.now.partial ≡ true)) }
 {
@@ -182,7 +182,7 @@ fn broken_of<R: Threads + Sync>(
         (job_of accepted.now.layout places.now accepted.now.trace) settings.now.pace.workers result.error }
     ensures left { IfSome result.told (λ told. TellPart hierarchy.now
         (instance_under accepted.now.layout accepted.now.assigned accepted.now.trace)
-        settings.now.pace.workers settings.now.pace.tick (message_of_tick result.error)
+        settings.now.pace.workers settings.now.pace.tick
         (string_bytes told.measured) (string_bytes told.text) told.drift) }
     ensures wanted { IfSome result.told (λ _. settings.now.partial ≡ true) }
 {
@@ -198,7 +198,6 @@ fn broken_of<R: Threads + Sync>(
     let run = StoppedRun {
         whole: accepted,
         turns: turns.as_slice(),
-        but: message_of_tick(&error),
         workers: settings.pace.workers,
         tick: settings.pace.tick,
     };
@@ -210,16 +209,6 @@ fn broken_of<R: Threads + Sync>(
             told: Some(told),
         },
         Err(_) => untold(error),
-    }
-}
-
-/// The message that ran for too long, where the run broke off for one; else 0.
-fn message_of_tick(error: &RunError) -> u32
-    ensures { result ≡ message_of_tick error.now }
-{
-    match error {
-        RunError::Tick(m) => *m,
-        _ => 0,
     }
 }
 

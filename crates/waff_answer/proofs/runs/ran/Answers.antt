@@ -2,7 +2,6 @@ use Rattle.std.proofs.Common.{◌∙◌, ap, subst, string_bytes}
 use Rattle.std.proofs.lemmas.Result.{IfErr-weaker, IfOk-weaker}
 use Rattle.waff_inputs.specs.Inputs.{Refuses, instance_under}
 use Rattle.waff_tool.specs.Ranks.{file_at}
-use Rattle.waff_run.specs.Texts.{message_of_tick}
 use Rattle.waff_answer.specs.Answers.{bytes_of, first, second}
 use Rattle.waff_answer.specs.Runs.{IsPartText, IsRunText, RefusesRun}
 use Rattle.waff_answer.proofs.Running.{assigned_under, refuses_run, some_weaker}
@@ -35,8 +34,8 @@ returns-in-Ok g c =
           c.ran_on_files-ran.ensures.refused;
       left = IfErr-weaker c.ran_on_files-ran.result _ _
           (λ broke. some_weaker broke.left _ _
-          (λ left texts. subst (λ h. IsPartText h (second files) k c.args.task.now.words.tick (message_of_tick broke.error) (string_bytes left.told.text) left.told.drift) hierarchy
-          (subst (λ t. IsPartText c.file-hierarchy.result.now t k c.args.task.now.words.tick (message_of_tick broke.error) (string_bytes left.told.text) left.told.drift) trace
+          (λ left texts. subst (λ h. IsPartText h (second files) k c.args.task.now.words.tick (string_bytes left.told.text) left.told.drift) hierarchy
+          (subst (λ t. IsPartText c.file-hierarchy.result.now t k c.args.task.now.words.tick (string_bytes left.told.text) left.told.drift) trace
           (record {
             instance = instance;
             accepts = is;
