@@ -10,7 +10,7 @@ use Rattle.waff_record.specs.Left.{AreLeft, AreLeftOf, IsLeft}
 module _ (turns : List Turn) (tick : ℕ) where
   pub left_none : AreLeftOf turns tick 0 []
   left_none = record {
-    each = λ n. (λ has. absurd (omega (arith, has.1.0)), λ both. absurd (omega (arith, both.0.number.from, both.1)));
+    each = λ n. (λ has. absurd (omega (arith, has.1)), λ both. absurd (omega (arith, both.0.number.from, both.1)));
     rising = λ p q less within. absurd (omega (arith, within));
   }
 

@@ -4,8 +4,8 @@ use Rattle.waff_plan.proofs.TimingLemmas.{are_timings}
 use Rattle.waff_record.proofs.Stopped.{stopped_run, stopped_told}
 use Rattle.waff_record.proofs.partial.record_case.Goals as goal
 
-pub record_of-requires-after_bounds : goal.record_of-requires-after_bounds
-record_of-requires-after_bounds g c κs within =
+pub record_of-requires-clause-ran : goal.record_of-requires-clause-ran
+record_of-requires-clause-ran g c =
     stopped_run c.args.run.now c.args.kept.now c.args.case c.requires.assigned c.requires.reached c.requires.left c.requires.cut c.requires.tree c.len-affinities.ensures.tree
     c.requires.assignment (are_timings c.args.case.trace.now c.len-messages.ensures.trace)
     (λ course is. record {
