@@ -5,7 +5,7 @@ use Rattle.waff_record.proofs.Stopped.{stopped_run, stopped_told}
 use Rattle.waff_record.proofs.partial.record_case.Goals as goal
 
 pub record_of-requires-clause-ran : goal.record_of-requires-clause-ran
-record_of-requires-clause-ran g c =
+record_of-requires-clause-ran g c κs within =
     stopped_run c.args.run.now c.args.kept.now c.args.case c.requires.assigned c.requires.reached c.requires.left c.requires.cut c.requires.tree c.len-affinities.ensures.tree
     c.requires.assignment (are_timings c.args.case.trace.now c.len-messages.ensures.trace)
     (λ course is. record {
