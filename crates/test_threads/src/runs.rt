@@ -212,19 +212,19 @@ fn tells_what_is_left_where_that_is_wanted(rt: HostRuntime) {
     let mut settings = settings(2);
     settings.fill = false;
     settings.partial = true;
-    match ran_by(&rt, rt.alloc(), &store, &settings) {
-        Err(
-            Broken {
-                error: RunError::File(name),
-                told: Some(left),
-            },
-        ) => {
-            assert_eq!(rt; name.as_str(), "s.1");
-            assert_eq!(rt;
-                left.measured.as_str(),
-                "message,cost,release,client,think,ops\n"
-            );
-        }
-        _ => panic!(rt; "nothing is told"),
+    let Err(broken) = ran_by(&rt, rt.alloc(), &store, &settings) else {
+        panic!(rt; "no fault");
+    };
+    let Broken { error, told } = broken;
+    match error {
+        RunError::File(name) => assert_eq!(rt; name.as_str(), "s.1"),
+        _ => panic!(rt; "no fault of the store"),
+    }
+    match told {
+        Some(left) => assert_eq!(rt;
+            left.measured.as_str(),
+            "message,cost,release,client,think,ops\n"
+        ),
+        None => panic!(rt; "nothing is told"),
     }
 }

@@ -233,13 +233,10 @@ fn write_run<R: Threads + Wait + Clock + Files + Opens + Eprint + Sync, W: Write
             drop(told);
             written
         }
-        Err(BrokeOff { error, left: None }) => Err(Fallen { error, drift: None }),
-        Err(
-            BrokeOff {
-                error,
-                left: Some(left),
-            },
-        ) => Err(write_left(rt, task, error, left, out)),
+        Err(BrokeOff { error, left }) => match left {
+            None => Err(Fallen { error, drift: None }),
+            Some(left) => Err(write_left(rt, task, error, left, out)),
+        },
     }
 }
 
@@ -293,12 +290,17 @@ fn write_left<R: Files, W: Write>(
         (W.contents out.old) (W.contents out.new) }
 {
     let RanOnFiles { told, part } = left;
-    let wrote = write_texts(rt, &told, part, out);
-    let drift = told.drift;
-    drop(told);
-    match wrote {
-        Ok(()) => Fallen { error, drift },
-        Err(_) => Fallen { error, drift: None },
+    match write_texts(rt, &told, part, out) {
+        Ok(()) => {
+            let drift = told.drift;
+            drop(told);
+            Fallen { error, drift }
+        }
+        Err(fault) => {
+            drop(fault);
+            drop(told);
+            Fallen { error, drift: None }
+        }
     }
 }
 
@@ -415,21 +417,18 @@ fn ran_on_files<R: Threads + Wait + Clock + Files + Opens + Eprint + Sync>(
     drop(store);
     match ran {
         Ok(told) => Ok(RanOnFiles { told, part }),
-        Err(
-            Broken {
+        Err(Broken { error, told }) => match told {
+            Some(told) => Err(BrokeOff {
                 error,
-                told: Some(told),
-            },
-        ) => Err(BrokeOff {
-            error,
-            left: Some(RanOnFiles { told, part }),
-        }),
-        Err(Broken { error, told: None }) => {
-            if let Some(part) = part {
-                part.remove(rt);
+                left: Some(RanOnFiles { told, part }),
+            }),
+            None => {
+                if let Some(part) = part {
+                    part.remove(rt);
+                }
+                Err(broke_of(error))
             }
-            Err(broke_of(error))
-        }
+        },
     }
 }
 

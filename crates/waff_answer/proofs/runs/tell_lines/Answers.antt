@@ -6,7 +6,8 @@ use Rattle.waff_answer.proofs.runs.tell_lines.Goals as goal
 
 pub returns-in-Ok : goal.returns-in-Ok
 returns-in-Ok g c =
-    let (line, advice) = (run_message c.args.error.now, c.args.advice.now) in
+    let line = run_message c.args.error.now in
+    let advice = c.args.advice.now in
     subst (λ drift. Tells (g.E.ErrorStream.holds c.args.err.now) (g.E.ErrorStream.holds c.tell_line-in-Ok.new.err) (g.E.ErrorStream.failed c.tell_line-in-Ok.new.err)
     ((drift_message drift ++ line) ++ advice)) (sym c.in-Some.is)
     (subst (Tells (g.E.ErrorStream.holds c.args.err.now) (g.E.ErrorStream.holds c.tell_line-in-Ok.new.err) (g.E.ErrorStream.failed c.tell_line-in-Ok.new.err))
@@ -16,7 +17,8 @@ returns-in-Ok g c =
 
 pub returns-in-Err : goal.returns-in-Err
 returns-in-Err g c =
-    let (line, advice) = (run_message c.args.error.now, c.args.advice.now) in
+    let line = run_message c.args.error.now in
+    let advice = c.args.advice.now in
     subst (λ drift. Tells (g.E.ErrorStream.holds c.args.err.now) (g.E.ErrorStream.holds c.write_drift.new.err) (g.E.ErrorStream.failed c.write_drift.new.err)
     ((drift_message drift ++ line) ++ advice)) (sym c.in-Some.is)
     (subst (Tells (g.E.ErrorStream.holds c.args.err.now) (g.E.ErrorStream.holds c.write_drift.new.err) (g.E.ErrorStream.failed c.write_drift.new.err))
