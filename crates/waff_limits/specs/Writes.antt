@@ -1,5 +1,5 @@
 -- How long messages need each cell where those that only read it share it, everywhere or in some spaces, and those that write it do not.
-use Rattle.std.specs.Prelude.{ℕ, ◌+◌, ◌&&◌, Bool, false, true, not, if◌then◌else◌, List, [], ◌∷◌, Option, Some, None, flat_map, map, sum_by}
+use Rattle.std.specs.Prelude.{ℕ, ◌+◌, ◌-◌, ◌&&◌, Bool, false, true, not, if◌then◌else◌, List, [], ◌∷◌, Option, Some, None, flat_map, map, sum_by, take}
 use Rattle.std.specs.List.{list_any}
 use Rattle.waff_model.specs.Cells.{cells_of, cells_written}
 use Rattle.waff_model.specs.declared.cell.Cell.{Cell}
@@ -11,6 +11,10 @@ use Rattle.waff_model.specs.declared.op.Op.{Op}
 use Rattle.waff_model.specs.declared.op.Op.TheVariants.{Add, Copy, Read, Set, Swap}
 use Rattle.waff_plan.specs.Work.{greatest}
 use Rattle.waff_limits.specs.Data.{is_cell}
+use Rattle.waff_limits.specs.Edges.{AreUsed, edges_of}
+use Rattle.waff_limits.specs.Readings.{AreRead, readings_of}
+use Rattle.waff_limits.specs.declared.edges.Edges.{Edges}
+use Rattle.waff_limits.specs.declared.readings.Readings.{Readings}
 
 -- whether operations write the cell, and whether they only read it
 abbrev pub writes : List Op → Cell → Bool
@@ -85,3 +89,9 @@ ticks_sharing sharing messages cell = greatest (map (sharing_cost sharing cell) 
 
 abbrev pub ticks_by : Option (List Space) → List Message → Cell → ℕ
 ticks_by sharing messages cell = ticks_alone sharing messages cell + ticks_sharing sharing messages cell
+
+-- both tables go from the first n - 1 messages to the first n: what is needed alone, and what is shared
+pub record GoOn (sharing : Option (List Space)) (messages : List Message) (n : ℕ) (alone more : Edges) (shared others : Readings) : Type 0 where
+  pub alone : AreUsed (edges_of alone) (ticks_alone sharing (take (n - 1) messages)) → AreUsed (edges_of more) (ticks_alone sharing (take n messages))
+  pub shared : AreRead (readings_of shared) (ticks_sharing sharing (take (n - 1) messages))
+      → AreRead (readings_of others) (ticks_sharing sharing (take n messages))

@@ -1,17 +1,14 @@
 //! The cell that messages need longest where those that only read it share it.
 
-ghost use Rattle.std.specs.Prelude.{◌≡◌, ◌-◌, ◌≤◌, [], All, IfOk, IfSome, IsTrue, OnOk, ◌++◌, length, option_map, take};
-ghost use Rattle.std.specs.List.Sorted.{IsPermutation};
+ghost use Rattle.std.specs.Prelude.{◌≡◌, [], All, IfOk, IfSome, IsTrue, OnOk, ◌++◌, length, option_map};
 ghost use Rattle.waff_model.specs.Cells.{cells_of, cells_of_op};
 ghost use Rattle.waff_model.specs.Layout.{IsCell};
 ghost use Rattle.waff_model.specs.Messages.{sizes_of};
 ghost use Rattle.waff_model.specs.Numbers.{IsAmongFirst};
 ghost use Rattle.waff_limits.specs.Data.{IsMostOf};
-ghost use Rattle.waff_limits.specs.Edges.{AreUsed, edges_of};
 ghost use Rattle.waff_limits.specs.Locks.{ticks_needed};
-ghost use Rattle.waff_limits.specs.Readings.{AreRead, readings_of};
-ghost use Rattle.waff_limits.specs.Writes.{cells_alone, cells_alone_by, may_share, ticks_alone};
-ghost use Rattle.waff_limits.specs.Writes.{ticks_by, ticks_shared, ticks_sharing, unless_shared};
+ghost use Rattle.waff_limits.specs.Writes.{GoOn, cells_alone, cells_alone_by, may_share, ticks_by};
+ghost use Rattle.waff_limits.specs.Writes.{ticks_shared, unless_shared};
 
 use crate::data::{CellUse, most_used_cell};
 use crate::edges::Edges;
@@ -75,14 +72,8 @@ fn add_message(
 ) -> Result<(), AllocError>
     requires number { IsAmongFirst (length trace.now.messages) n }
     requires fits { IfSome sharing (λ layout. trace.now.sizes ≡ sizes_of layout.now.spaces) }
-    ensures alone { OnOk result (AreUsed (edges_of alone.old)
-        (ticks_alone (option_map (λ layout. layout.now.spaces) sharing.entry) (take (n - 1) trace.now.messages))
-        → AreUsed (edges_of alone.new)
-        (ticks_alone (option_map (λ layout. layout.now.spaces) sharing.entry) (take n trace.now.messages))) }
-    ensures shared { OnOk result (AreRead (readings_of shared.old)
-        (ticks_sharing (option_map (λ layout. layout.now.spaces) sharing.entry) (take (n - 1) trace.now.messages))
-        → AreRead (readings_of shared.new)
-        (ticks_sharing (option_map (λ layout. layout.now.spaces) sharing.entry) (take n trace.now.messages))) }
+    ensures { OnOk result (GoOn (option_map (λ layout. layout.now.spaces) sharing.entry) trace.now.messages n
+        alone.old alone.new shared.old shared.new) }
 {
     let message = trace.message(n);
     let cost = message.cost;
@@ -111,14 +102,8 @@ fn add_cells(
 ) -> Result<(), AllocError>
     requires number { IsAmongFirst (length trace.now.messages) n }
     requires fits { IfSome sharing (λ layout. trace.now.sizes ≡ sizes_of layout.now.spaces) }
-    ensures alone { OnOk result (AreUsed (edges_of alone.old)
-        (ticks_alone (option_map (λ layout. layout.now.spaces) sharing.entry) (take (n - 1) trace.now.messages))
-        → AreUsed (edges_of alone.new)
-        (ticks_alone (option_map (λ layout. layout.now.spaces) sharing.entry) (take n trace.now.messages))) }
-    ensures shared { OnOk result (AreRead (readings_of shared.old)
-        (ticks_sharing (option_map (λ layout. layout.now.spaces) sharing.entry) (take (n - 1) trace.now.messages))
-        → AreRead (readings_of shared.new)
-        (ticks_sharing (option_map (λ layout. layout.now.spaces) sharing.entry) (take n trace.now.messages))) }
+    ensures { OnOk result (GoOn (option_map (λ layout. layout.now.spaces) sharing.entry) trace.now.messages n
+        alone.old alone.new shared.old shared.new) }
 {
     let message = trace.message(n);
     let cells = footprint(alloc, trace, n)?;

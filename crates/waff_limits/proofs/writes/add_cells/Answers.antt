@@ -26,49 +26,41 @@ add_all-requires c =
     let is : c.dedup.new.self.items ≡ dedup cell_eq sorted = dedup_is cell_eq sorted c.dedup.new.self.items c.dedup.ensures.filtered in
     record { rising = rw (c.as_slice-3.ensures.value, is) (IsStrictlySortedBy-dedup cell_cmp_total cell_eq_ties sorted c.sort_unstable.ensures.sorted) }
 
-pub returns-clause-alone : goal.returns-clause-alone
-returns-clause-alone c =
+pub returns : goal.returns
+returns c =
+    let sharing = option_map (λ l. l.now.spaces) c.args.sharing in
     let messages = c.args.trace.now.messages in
     let message = c.message-message.result.now in
+    let here = cells_alone sharing message.ops in
     let pushed = c.push_alone.new.cells.items in
     let sorted = c.sort_unstable.new.self.items in
     let moved = c.sort_unstable.ensures.permutation in
-    let cells : pushed ≡ cells_alone (option_map (λ l. l.now.spaces) c.args.sharing) message.ops = c.in_ok-push_alone.ensures ∙ ap (λ xs. xs ++ cells_alone (option_map (λ l. l.now.spaces) c.args.sharing) message.ops) c.new-own.ensures.items in
+    let cells : pushed ≡ here = c.in_ok-push_alone.ensures ∙ ap (λ xs. xs ++ here) c.new-own.ensures.items in
+    let to : (x : Cell) → Contains sorted x → Contains here x = λ x there.
+    subst (λ xs. Contains xs x) cells (Contains-permutation sorted pushed x (IsPermutation-sym pushed sorted moved) there) in
+    let from : (x : Cell) → Contains here x → Contains sorted x = λ x there.
+    Contains-permutation pushed sorted x moved (subst (λ xs. Contains xs x) (sym cells) there) in
     let is : c.as_slice-3.result.now ≡ dedup cell_eq sorted
     = c.as_slice-3.ensures.value ∙ dedup_is cell_eq sorted c.dedup.new.self.items c.dedup.ensures.filtered in
-    let same : (cell : Cell) → list_any (is_cell cell) c.as_slice-3.result.now ≡ list_any (is_cell cell) (cells_alone (option_map (λ l. l.now.spaces) c.args.sharing) message.ops) = λ cell.
+    let same : (cell : Cell) → list_any (is_cell cell) c.as_slice-3.result.now ≡ list_any (is_cell cell) here = λ cell.
     ap (list_any (is_cell cell)) is
-    ∙ any_same (dedup cell_eq sorted) (cells_alone (option_map (λ l. l.now.spaces) c.args.sharing) message.ops)
-    (λ x there. subst (λ xs. Contains xs x) cells (Contains-permutation sorted pushed x (IsPermutation-sym pushed sorted moved) (Contains-from_dedup cell_eq sorted x there)))
-    (λ x there. Contains-dedup cell_eq_equiv cell_eq_same sorted x (Contains-permutation pushed sorted x moved (subst (λ xs. Contains xs x) (sym cells) there)))
-    cell in
+    ∙ any_same (dedup cell_eq sorted) here (λ x there. to x (Contains-from_dedup cell_eq sorted x there))
+    (λ x there. Contains-dedup cell_eq_equiv cell_eq_same sorted x (from x there)) cell in
+    let own : (cell : Cell) → list_any (is_cell cell) c.as_slice-2.result.now ≡ list_any (is_cell cell) here = λ cell.
+    ap (list_any (is_cell cell)) c.as_slice-2.ensures.value ∙ any_same sorted here to from cell in
     on_ok_weaker c.add_all.result
-    (λ told are. same_used (edges_of c.add_all.new.self) _ _
-    (λ cell. written_by (option_map (λ l. l.now.spaces) c.args.sharing) messages c.args.n message c.requires.number c.message-message.ensures.message cell (list_any (is_cell cell) c.as_slice-3.result.now) (same cell))
-    (told _ are))
-    c.add_all.ensures
-
-pub returns-clause-shared : goal.returns-clause-shared
-returns-clause-shared c =
-    let messages = c.args.trace.now.messages in
-    let message = c.message-message.result.now in
-    let pushed = c.push_alone.new.cells.items in
-    let sorted = c.sort_unstable.new.self.items in
-    let moved = c.sort_unstable.ensures.permutation in
-    let cells : pushed ≡ cells_alone (option_map (λ l. l.now.spaces) c.args.sharing) message.ops = c.in_ok-push_alone.ensures ∙ ap (λ xs. xs ++ cells_alone (option_map (λ l. l.now.spaces) c.args.sharing) message.ops) c.new-own.ensures.items in
-    let own : (cell : Cell) → list_any (is_cell cell) c.as_slice-2.result.now ≡ list_any (is_cell cell) (cells_alone (option_map (λ l. l.now.spaces) c.args.sharing) message.ops) = λ cell.
-    ap (list_any (is_cell cell)) c.as_slice-2.ensures.value
-    ∙ any_same sorted (cells_alone (option_map (λ l. l.now.spaces) c.args.sharing) message.ops)
-    (λ x there. subst (λ xs. Contains xs x) cells (Contains-permutation sorted pushed x (IsPermutation-sym pushed sorted moved) there))
-    (λ x there. Contains-permutation pushed sorted x moved (subst (λ xs. Contains xs x) (sym cells) there))
-    cell in
-    on_ok_weaker c.add_all.result
-    (λ told are. same_read (readings_of c.add_others.new.self) _ _
-    (λ cell. read_by (option_map (λ l. l.now.spaces) c.args.sharing) messages c.args.n message c.requires.number c.message-message.ensures.message cell
-    (list_any (is_cell cell) c.as_slice.result.now && not (list_any (is_cell cell) c.as_slice-2.result.now))
-    (ap₂ (λ a b. a && not b) (ap (list_any (is_cell cell)) c.as_slice.ensures.value
-    ∙ has_same messages c.args.n message c.in_ok-cells.cells.items cell c.message-message.ensures.message c.in_ok-cells.ensures) (own cell)))
-    (c.in_ok-add_others.ensures _ are))
+    (λ told. record {
+      alone = λ are. same_used (edges_of c.add_all.new.self) _ _
+          (λ cell. written_by sharing messages c.args.n message c.requires.number c.message-message.ensures.message cell
+          (list_any (is_cell cell) c.as_slice-3.result.now) (same cell))
+          (told _ are);
+      shared = λ are. same_read (readings_of c.add_others.new.self) _ _
+          (λ cell. read_by sharing messages c.args.n message c.requires.number c.message-message.ensures.message cell
+          (list_any (is_cell cell) c.as_slice.result.now && not (list_any (is_cell cell) c.as_slice-2.result.now))
+          (ap₂ (λ a b. a && not b) (ap (list_any (is_cell cell)) c.as_slice.ensures.value
+          ∙ has_same messages c.args.n message c.in_ok-cells.cells.items cell c.message-message.ensures.message c.in_ok-cells.ensures) (own cell)))
+          (c.in_ok-add_others.ensures _ are);
+    })
     c.add_all.ensures
 
 pub push_alone-requires : goal.push_alone-requires

@@ -10,42 +10,36 @@ use Rattle.waff_limits.proofs.SkyLemmas.{same_read}
 use Rattle.waff_limits.proofs.WrittenCells.{none_only_read, none_written, run_only_read, run_written}
 use Rattle.waff_limits.proofs.writes.add_message.Goals as goal
 
-pub returns-then-needs_none-clause-alone : goal.returns-then-needs_none-clause-alone
-returns-then-needs_none-clause-alone c =
+pub returns-then-needs_none : goal.returns-then-needs_none
+returns-then-needs_none c =
+    let sharing = option_map (λ l. l.now.spaces) c.args.sharing in
     let messages = c.args.trace.now.messages in
+    let message = c.message-message.result.now in
     let none = c.needs_none.ensures c.if-needs_none.true in
     on_ok_weaker c.add_run.result
-    (λ told are. same_used (edges_of c.args.alone.now) _ _
-    (λ cell. none_written (option_map (λ l. l.now.spaces) c.args.sharing) messages c.args.n c.message-message.result.now c.requires.number c.message-message.ensures.message cell none) are)
+    (λ told. record {
+      alone = λ are. same_used (edges_of c.args.alone.now) _ _
+          (λ cell. none_written sharing messages c.args.n message c.requires.number c.message-message.ensures.message cell none) are;
+      shared = λ are. same_read (readings_of c.add_run.new.self) _ _
+          (λ cell. run_only_read sharing messages c.args.n message c.requires.number c.message-message.ensures.message cell none
+          c.in-Some.run' c.in-Some.ensures.cells) (told _ are);
+    })
     c.add_run.ensures
 
-pub returns-then-needs_none-clause-shared : goal.returns-then-needs_none-clause-shared
-returns-then-needs_none-clause-shared c =
+pub returns-then-needs_all : goal.returns-then-needs_all
+returns-then-needs_all c =
+    let sharing = option_map (λ l. l.now.spaces) c.args.sharing in
     let messages = c.args.trace.now.messages in
-    let none = c.needs_none.ensures c.if-needs_none.true in
-    on_ok_weaker c.add_run.result
-    (λ told are. same_read (readings_of c.add_run.new.self) _ _
-    (λ cell. run_only_read (option_map (λ l. l.now.spaces) c.args.sharing) messages c.args.n c.message-message.result.now c.requires.number c.message-message.ensures.message cell none
-    c.in-Some.run' c.in-Some.ensures.cells) (told _ are))
-    c.add_run.ensures
-
-pub returns-then-needs_all-clause-alone : goal.returns-then-needs_all-clause-alone
-returns-then-needs_all-clause-alone c =
-    let messages = c.args.trace.now.messages in
+    let message = c.message-message.result.now in
     let all = c.needs_all.ensures c.if-needs_all.true in
     on_ok_weaker c.add_run-then-needs_all.result
-    (λ told are. same_used (edges_of c.add_run-then-needs_all.new.self) _ _
-    (λ cell. run_written (option_map (λ l. l.now.spaces) c.args.sharing) messages c.args.n c.message-message.result.now c.requires.number c.message-message.ensures.message cell all
-    c.in-Some.run' c.in-Some.ensures.cells) (told _ are))
-    c.add_run-then-needs_all.ensures
-
-pub returns-then-needs_all-clause-shared : goal.returns-then-needs_all-clause-shared
-returns-then-needs_all-clause-shared c =
-    let messages = c.args.trace.now.messages in
-    let all = c.needs_all.ensures c.if-needs_all.true in
-    on_ok_weaker c.add_run-then-needs_all.result
-    (λ told are. same_read (readings_of c.args.shared.now) _ _
-    (λ cell. none_only_read (option_map (λ l. l.now.spaces) c.args.sharing) messages c.args.n c.message-message.result.now c.requires.number c.message-message.ensures.message cell all) are)
+    (λ told. record {
+      alone = λ are. same_used (edges_of c.add_run-then-needs_all.new.self) _ _
+          (λ cell. run_written sharing messages c.args.n message c.requires.number c.message-message.ensures.message cell all
+          c.in-Some.run' c.in-Some.ensures.cells) (told _ are);
+      shared = λ are. same_read (readings_of c.args.shared.now) _ _
+          (λ cell. none_only_read sharing messages c.args.n message c.requires.number c.message-message.ensures.message cell all) are;
+    })
     c.add_run-then-needs_all.ensures
 
 pub needs_none-requires : goal.needs_none-requires
