@@ -1,27 +1,18 @@
 -- Of which spaces messages name a cell.
-use Rattle.std.proofs.Common.{◌≡◌, ℕ, ◌+◌, ◌-◌, ◌≤◌, ◌||◌, Bool, true, false, List, [], ◌∷◌, ◌++◌, Some, eqb, take, append-nil, refl, ◌∙◌, ap, arith, slice_get}
-use Rattle.std.specs.List.{flat_map, list_any}
-use Rattle.std.proofs.lemmas.Grind.{flat_map-append}
-use Rattle.std.proofs.lemmas.List.{take_more}
-use Rattle.std.proofs.lemmas.List.Folds.{list_any-append, list_any_more}
+use Rattle.std.proofs.Common.{◌≡◌, ℕ, ◌+◌, ◌-◌, ◌≤◌, ◌||◌, Bool, true, false, Contains, List, Some, eqb, take, refl, ◌∙◌, ap, arith, slice_get}
+use Rattle.std.specs.Cmp.{both_ways}
+use Rattle.std.specs.List.{list_any}
+use Rattle.std.proofs.lemmas.List.Folds.{Any-from_list_any, list_any_at, list_any_more}
 use Rattle.std.proofs.lemmas.Option.{get_or_from_slice_get, slice_get_within}
-use Rattle.waff_model.specs.Cells.{cells_of, cells_of_op}
+use Rattle.waff_model.specs.Cells.{cells_of}
 use Rattle.waff_model.specs.declared.cell.Cell.{Cell}
 use Rattle.waff_model.specs.declared.message.Message.{Message}
-use Rattle.waff_model.specs.declared.op.Op.{Op}
+use Rattle.waff_assign.specs.Footprint.{ListsFootprint}
 use Rattle.waff_locks.specs.Candidates.{name_space, ops_name}
 
--- one cell, and two
-pub or_one : (a b : Bool) → (a || b) ≡ (a || (b || false))
-or_one true b = refl
-or_one false true = refl
-or_one false false = refl
-
-pub or_two : (a b c : Bool) → ((a || b) || c) ≡ (a || (b || (c || false)))
-or_two true b c = refl
-or_two false true c = refl
-or_two false false true = refl
-or_two false false false = refl
+-- whether a cell is of a space
+abbrev pub is_of : ℕ → Cell → Bool
+is_of s cell = eqb cell.space s
 
 pub or_none : (a : Bool) → a ≡ (a || false)
 or_none true = refl
@@ -32,15 +23,19 @@ or_more true b c = refl
 or_more false true c = refl
 or_more false false c = refl
 
--- one operation more
-pub ops_name_more : (ops : List Op) (i : ℕ) (op : Op) (s : ℕ) → slice_get ops i ≡ Some op
-    → ops_name (take (i + 1) ops) s ≡ (ops_name (take i ops) s || list_any (λ (cell : Cell). eqb cell.space s) (cells_of_op op))
-ops_name_more ops i op s is =
-    let test : Cell → Bool = λ cell. eqb cell.space s in
-    let within = slice_get_within ops i op is in
-    ap (λ xs. list_any test (flat_map cells_of_op xs)) (take_more ops i op within ∙ ap (λ x. take i ops ++ x ∷ []) (get_or_from_slice_get ops i op op is))
-    ∙ ap (list_any test) (flat_map-append cells_of_op (take i ops) (op ∷ []) ∙ ap (λ cells. flat_map cells_of_op (take i ops) ++ cells) (append-nil (cells_of_op op)))
-    ∙ list_any-append test (cells_of (take i ops)) (cells_of_op op)
+-- what holds of a cell of a list holds of one of each list that has its cells
+any_among : (test : Cell → Bool) (xs ys : List Cell) → ((cell : Cell) → Contains xs cell → Contains ys cell) → list_any test xs ≡ true → list_any test ys ≡ true
+any_among test xs ys into some =
+    let (k, x, within, at, holds) = Any-from_list_any test xs some in
+    let (i, inside, here) = into x (k, within, at) in
+    list_any_at test ys i x inside (ap test here ∙ holds)
+
+-- the cells of a footprint are of the spaces of which the operations name cells
+pub footprint_names : (messages : List Message) (n : ℕ) (message : Message) (cells : List Cell) (s : ℕ) → slice_get messages (n - 1) ≡ Some message
+    → ListsFootprint messages n cells → list_any (is_of s) cells ≡ ops_name message.ops s
+footprint_names messages n message cells s is lists =
+    both_ways _ _ (any_among (is_of s) cells (cells_of message.ops) (λ cell. (lists.each message is cell).0))
+    (any_among (is_of s) (cells_of message.ops) cells (λ cell. (lists.each message is cell).1))
 
 -- one message more
 pub name_space_more : (messages : List Message) (n : ℕ) (message : Message) (s : ℕ) → 1 ≤ n → slice_get messages (n - 1) ≡ Some message

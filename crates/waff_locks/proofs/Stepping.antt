@@ -1,13 +1,12 @@
 -- Steps, and which space comes first.
-use Rattle.std.proofs.Common.{◌≡◌, ◌↔◌, Bool, IsTrue, true, false, eqb, ℕ, zero, suc, ◌+◌, ◌-◌, ◌<◌, ◌⊎◌, ◌++◌, inl, inr, All, Contains, List, [], ◌∷◌, length, get_or, map, take, append_assoc, refl, sym, ◌∙◌, ap, subst, arith}
-use Rattle.std.proofs.lemmas.Bool.{eqb-true}
+use Rattle.std.proofs.Common.{◌≡◌, ◌↔◌, Bool, IsTrue, false, ℕ, zero, suc, ◌+◌, ◌-◌, ◌<◌, ◌⊎◌, ◌++◌, inl, inr, All, Contains, List, [], ◌∷◌, Option, Some, None, length, get_or, map, take, append_assoc, refl, sym, ◌∙◌, ap, subst, arith}
 use Rattle.std.proofs.lemmas.List.{append-nil, get_or-map, length-map, length-set}
 use Rattle.std.proofs.lemmas.List.Elements.{All-cons, All-more, All-nil, All-weaker, Contains-get_or}
 use Rattle.waff_model.specs.Layout.{Hierarchy}
 use Rattle.waff_model.specs.Messages.{Arrivals}
 use Rattle.waff_model.specs.declared.locking.Locking.{Locking}
 use Rattle.waff_locks.specs.Candidates.{candidates}
-use Rattle.waff_locks.specs.Steps.{AreLess, AreSteps, AreTried, ComesBefore, IsStep, ranks_of, with_one}
+use Rattle.waff_locks.specs.Steps.{AreLess, AreSteps, AreTried, ComesBefore, IsFirst, IsNext, IsStep, ranks_of, with_one}
 use Rattle.waff_locks.specs.declared.figures.SpaceFigures.{SpaceFigures}
 use Rattle.waff_locks.specs.declared.wanted.Wanted.{Wanted}
 use Rattle.waff_locks.proofs.Choosing.{candidates_within}
@@ -72,10 +71,11 @@ pub first_more : (tried : List SpaceFigures) (i : ℕ) (first d result : SpaceFi
 first_more tried i first d result inside all is none =
     All-more (λ other. ¬ ComesBefore other result) tried i d inside (still_first (take i tried) first (get_or tried i d) result is all) none
 
--- where none is tried there is no candidate
-pub no_candidates : (tried : List SpaceFigures) (spaces : List ℕ) → map (λ (one : SpaceFigures). one.space) tried ≡ spaces → eqb (length tried) 0 ≡ true → spaces ≡ []
-no_candidates [] spaces is none = sym is
-no_candidates (one ∷ tried) spaces is none = absurd (omega (arith, eqb-true (length (one ∷ tried)) 0 none))
+-- the first of the candidates, if there is one, is the next step
+pub next_is : (wanted : Wanted) (layout : Hierarchy) (trace : Arrivals) (lockings : List Locking) (tried : List SpaceFigures) (first : Option SpaceFigures)
+    → AreTried wanted layout trace lockings tried → IsFirst tried first → IsNext wanted layout trace lockings first
+next_is wanted layout trace lockings tried None are none = sym are.in_turn ∙ ap (map (λ (one : SpaceFigures). one.space)) none
+next_is wanted layout trace lockings tried (Some first) are is = record { tried = tried; are_tried = are; among = is.0; first = is.1 }
 
 -- spaces of candidates are spaces
 within_by : (bound : ℕ) (tried : List SpaceFigures) (spaces : List ℕ) → map (λ (one : SpaceFigures). one.space) tried ≡ spaces → All (λ s. s < bound) spaces

@@ -1,6 +1,5 @@
 pub mod Candidates
 pub mod Sets
 pub mod Steps
-pub mod Known
 pub mod LocksText
 pub mod Laws

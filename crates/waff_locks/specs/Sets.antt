@@ -17,7 +17,6 @@ use Rattle.waff_figures.specs.Sweep.{IsPlanOf}
 use Rattle.waff_locks.specs.declared.wanted.Wanted.{Wanted}
 use Rattle.waff_locks.specs.declared.figures.SetFigures.{SetFigures}
 use Rattle.waff_locks.specs.declared.figures.Taken.{Taken}
-use Rattle.waff_locks.specs.declared.figures.Unlimited.{Unlimited}
 
 -- whether a message uses a lock; how many locks it uses alone, and how many it shares
 abbrev pub uses_some : Held → Bool
@@ -34,16 +33,6 @@ pub record AreTaken (assigned : List Held) (taken : Taken) : Type 0 where
   pub messages : taken.messages ≡ count_by uses_some assigned
   pub alone : taken.alone ≡ sum_by alone_uses assigned
   pub shared : taken.shared ≡ sum_by shared_uses assigned
-
--- what is told of an instance whatever the workers
-pub record IsUnlimited (instance : Instance) (told : Unlimited) : Type 0 where
-  pub starts : List ℕ
-  pub least : IsLeast (served_first instance (start_of starts)) (work_of_instance instance) (start_of starts)
-  pub tree : told.tree
-      ≡ greatest (map (path_cost instance.tree instance.assigned (work_of_instance instance)) (range_with_len 0 (length instance.tree)))
-  pub locks : told.locks ≡ greatest_lock instance.assigned (work_of_instance instance)
-  pub order : told.order ≡ length_of (work_of_instance instance) (start_of starts)
-  pub total : told.total ≡ total_of (work_of_instance instance)
 
 -- the length of the list plan for k workers by the rule
 abbrev pub IsLengthFor : Rule → Instance → ℕ → ℕ → Type 0

@@ -1,10 +1,11 @@
 -- Spaces that get locks one after another: each time the one with which the plan is shortest.
-use Rattle.std.specs.Prelude.{◌≡◌, ℕ, zero, suc, ◌+◌, ◌<◌, ◌⊎◌, max, All, List, [], ◌∷◌, ◌++◌, Contains, Option, Some, None, map, slice_set, unwrap_or}
+use Rattle.std.specs.Prelude.{◌≡◌, ℕ, zero, suc, ◌+◌, ◌<◌, ◌⊎◌, max, All, List, [], ◌∷◌, Contains, Option, Some, None, map, slice_set, unwrap_or}
 use Rattle.waff_model.specs.Layout.{Hierarchy}
 use Rattle.waff_model.specs.Messages.{Arrivals}
 use Rattle.waff_model.specs.declared.locking.Locking.{Locking}
 use Rattle.waff_locks.specs.Candidates.{candidates}
 use Rattle.waff_locks.specs.Sets.{AreFiguresWith}
+use Rattle.waff_locks.specs.declared.wanted.Asked.{Asked}
 use Rattle.waff_locks.specs.declared.wanted.Wanted.{Wanted}
 use Rattle.waff_locks.specs.declared.figures.SetFigures.{SetFigures}
 use Rattle.waff_locks.specs.declared.figures.SpaceFigures.{SpaceFigures}
@@ -37,12 +38,21 @@ with_one wanted lockings s = slice_set lockings s wanted.kind
 abbrev pub HasFigures : Wanted → Hierarchy → Arrivals → List Locking → SpaceFigures → Type 0
 HasFigures wanted layout trace lockings one = AreFiguresWith wanted layout trace (with_one wanted lockings one.space) one.figures
 
+-- of what is asked
+abbrev pub IsMade : Asked → List Locking → SpaceFigures → Type 0
+IsMade asked lockings = HasFigures asked.wanted.now asked.layout.now asked.trace.now lockings
+
 -- the candidates beside these locks, each with its figures
 pub record AreTried (wanted : Wanted) (layout : Hierarchy) (trace : Arrivals) (lockings : List Locking) (tried : List SpaceFigures) : Type 0 where
   pub in_turn : map (λ one. one.space) tried ≡ candidates wanted.kind trace.messages lockings
   pub each : All (HasFigures wanted layout trace lockings) tried
 
--- the first of them
+-- the first of these, if there is one
+abbrev pub IsFirst : List SpaceFigures → Option SpaceFigures → Type 0
+IsFirst tried None = tried ≡ []
+IsFirst tried (Some first) = Contains tried first × All (λ other. ¬ ComesBefore other first) tried
+
+-- the first of the candidates
 pub record IsStep (wanted : Wanted) (layout : Hierarchy) (trace : Arrivals) (lockings : List Locking) (step : SpaceFigures) : Type 0 where
   pub tried : List SpaceFigures
   pub are_tried : AreTried wanted layout trace lockings tried
@@ -60,10 +70,3 @@ AreSteps wanted layout trace most lockings [] = (most ≡ 0) ⊎ (candidates wan
 AreSteps wanted layout trace zero lockings (step ∷ steps) = ⊥
 AreSteps wanted layout trace (suc most) lockings (step ∷ steps) =
     IsStep wanted layout trace lockings step × AreSteps wanted layout trace most (with_one wanted lockings step.space) steps
-
--- steps have been appended to others
-pub record AreMore (wanted : Wanted) (layout : Hierarchy) (trace : Arrivals) (most : ℕ) (lockings : List Locking) (old new : List SpaceFigures)
-    : Type 0 where
-  pub more : List SpaceFigures
-  pub behind : new ≡ old ++ more
-  pub steps : AreSteps wanted layout trace most lockings more

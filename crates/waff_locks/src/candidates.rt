@@ -2,13 +2,13 @@
 
 ghost use Rattle.std.specs.Prelude.{◌≡◌, ◌==◌, ◌<◌, ◌≤◌, ◌&&◌, ◌||◌, ◌++◌, ◌∷◌, [], ℕ, All, IfOk, List, OnOk, false, if◌then◌else◌, length, slice_index_or};
 ghost use Rattle.std.specs.List.{list_any};
-ghost use Rattle.waff_model.specs.Cells.{cells_of_op};
 ghost use Rattle.waff_model.specs.declared.limits.TheConstants.{MAX_SPACES};
 ghost use Rattle.waff_model.specs.declared.message.Message.{Message};
-ghost use Rattle.waff_locks.specs.Candidates.{AreNamed, are_new, candidates, locked_too, name_space, ops_name};
+ghost use Rattle.waff_locks.specs.Candidates.{AreNamed, are_new, candidates, locked_too};
 
 use std::alloc::{AllocError, Global};
-use waff_model::{Locking, Op, Ops, Trace};
+use waff_assign::footprint;
+use waff_model::{Cell, Locking, Trace};
 
 /// Of which of so many spaces the messages name a cell.
 pub(crate) fn named_spaces(
@@ -21,40 +21,21 @@ pub(crate) fn named_spaces(
 {
     let mut named = vec![in alloc; false; count]?;
     for n in 1..trace.len() + 1 {
-        note_ops(&mut named, &trace.message(n).ops);
+        let cells = footprint(alloc, trace, n)?;
+        note_cells(&mut named, cells.as_slice());
     }
     Ok(named)
 }
 
-/// Notes the spaces of which the operations name a cell.
-fn note_ops(named: &mut Vec<bool>, ops: &Ops)
+/// Notes the spaces of these cells.
+fn note_cells(named: &mut Vec<bool>, cells: &[Cell])
     ensures count { length named.new.items ≡ length named.old.items }
     ensures each { (s : ℕ) → s < length named.old.items
-        → slice_index_or named.new.items s false ≡ (slice_index_or named.old.items s false || ops_name ops.now s) }
+        → slice_index_or named.new.items s false ≡ (slice_index_or named.old.items s false || list_any (λ cell. cell.space == s) cells.now) }
 {
-    for index in 0..ops.len() {
-        note_op(named, ops.get(index));
-    }
-}
-
-/// Notes the spaces of which the operation names a cell.
-fn note_op(named: &mut Vec<bool>, op: Op)
-    ensures count { length named.new.items ≡ length named.old.items }
-    ensures each { (s : ℕ) → s < length named.old.items
-        → slice_index_or named.new.items s false ≡ (slice_index_or named.old.items s false || list_any (λ cell. cell.space == s) (cells_of_op op)) }
-{
-    match op {
-        Op::Set { cell, .. } => note(named, cell.space),
-        Op::Add { cell, .. } => note(named, cell.space),
-        Op::Read { cell } => note(named, cell.space),
-        Op::Copy { cell, source } => {
-            note(named, cell.space);
-            note(named, source.space);
-        }
-        Op::Swap { cell, other } => {
-            note(named, cell.space);
-            note(named, other.space);
-        }
+    for i in 0..cells.len() {
+        let cell = cells[i];
+        note(named, cell.space);
     }
 }
 
@@ -85,7 +66,7 @@ pub(crate) fn candidates(
 {
     let mut spaces = Vec::new(alloc);
     for s in 0..lockings.len() {
-        let may = may_lock(kind, lockings[s], named[s]);
+        let may = are_new(kind, lockings[s]) && named[s];
         push_if(&mut spaces, s as u32, may)?;
     }
     Ok(spaces)
@@ -99,13 +80,6 @@ fn push_if(spaces: &mut Vec<u32>, s: u32, may: bool) -> Result<(), AllocError>
         spaces.push(s)?;
     }
     Ok(())
-}
-
-/// Whether a space with these locks is a candidate, which is named or not.
-fn may_lock(kind: Locking, there: Locking, named: bool) -> bool
-    ensures { result ≡ (are_new kind there && named) }
-{
-    are_new(kind, there) && named
 }
 
 /// Whether locks of the first kind would be new.

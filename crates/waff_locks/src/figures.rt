@@ -1,21 +1,20 @@
 //! What a trace comes to under a hierarchy with given locks.
 
 ghost use Rattle.std.specs.Prelude.{◌≡◌, ◌+◌, ◌^◌, ◌<◌, ◌≤◌, IfOk, count_by, if◌then◌else◌, length, nat_lt, not};
-ghost use Rattle.waff_model.specs.Messages.{sizes_of};
 ghost use Rattle.waff_assign.specs.Case.{instance_of};
 ghost use Rattle.waff_assign.specs.Held.{AreLocksBelow};
-ghost use Rattle.waff_locks.specs.Sets.{AreFigures, AreFiguresUnder, AreFiguresWith, AreTaken, IsLengthFor, IsListLength, IsUnlimited};
+ghost use Rattle.waff_locks.specs.Sets.{AreFigures, AreFiguresWith, AreTaken, IsListLength};
 ghost use Rattle.waff_locks.specs.Steps.{told_length};
 
 use crate::wanted::{Asked, Wanted};
 use std::alloc::{AllocError, Global};
 use waff_assign::{Assigned, Case, LockUse, assign};
-use waff_list::{Rule, list_plan_of};
-use waff_model::{Layout, Locking, Trace};
+use waff_list::list_plan_of;
+use waff_model::Locking;
+use waff_plan::Planned;
 use waff_plan::lock_bound::longest_lock;
 use waff_plan::lower_bound::longest_path;
 use waff_plan::unlimited::plan;
-use waff_plan::{Planned, Workers};
 
 /// What a trace comes to under a hierarchy.
 #[derive(Clone, Copy)]
@@ -43,10 +42,7 @@ impl SetFigures {
     pub(crate) fn told_length(&self) -> u64
         ensures { result ≡ told_length self.now }
     {
-        match self.plan {
-            Some(length) => length,
-            None => self.order,
-        }
+        self.plan.unwrap_or(self.order)
     }
 
     /// How many uses of locks there are.
@@ -73,30 +69,16 @@ pub(crate) fn figures_with(
     requires { length lockings.now ≡ length asked.now.layout.now.spaces }
     ensures { IfOk result (AreFiguresWith asked.now.wanted.now asked.now.layout.now asked.now.trace.now lockings.now) }
 {
-    let locked = asked.layout.with_lockings(alloc, lockings)?;
-    let figures = figures_under(alloc, &locked, asked.trace, asked.wanted);
-    drop(locked);
-    figures
-}
-
-/// The figures of the trace under a hierarchy.
-fn figures_under(
-    alloc: Global,
-    layout: &Layout,
-    trace: &Trace,
-    wanted: &Wanted,
-) -> Result<SetFigures, AllocError>
-    requires fits { trace.now.sizes ≡ sizes_of layout.now.spaces }
-    ensures { IfOk result (AreFiguresUnder wanted.now layout.now trace.now) }
-{
-    let assigned = assign(alloc, layout, trace)?;
+    let layout = asked.layout.with_lockings(alloc, lockings)?;
+    let assigned = assign(alloc, &layout, asked.trace)?;
     let case = Case {
         tree: layout.tree(),
         assigned: &assigned,
-        trace,
+        trace: asked.trace,
     };
-    let figures = figures_of(alloc, case, wanted);
+    let figures = figures_of(alloc, case, asked.wanted);
     drop(assigned);
+    drop(layout);
     figures
 }
 
@@ -104,46 +86,27 @@ fn figures_under(
 fn figures_of(alloc: Global, case: Case<'_>, wanted: &Wanted) -> Result<SetFigures, AllocError>
     ensures { IfOk result (AreFigures wanted.now (instance_of case.entry)) }
 {
-    let told = unlimited_of(alloc, case)?;
-    let plan = list_length(alloc, case, wanted)?;
+    let unlimited = plan(alloc, case.tree, case.assigned, case.trace)?;
+    let planned = Planned {
+        case,
+        plan: &unlimited,
+    };
+    let path = longest_path(alloc, &planned)?;
+    let lock = longest_lock(alloc, &planned)?;
+    let listed = list_length(alloc, case, wanted)?;
     let taken = count_taken(case);
-    Ok(SetFigures {
-        tree: told.tree,
-        locks: told.locks,
-        order: told.order,
-        plan,
-        total: told.total,
+    let figures = SetFigures {
+        tree: path.ticks,
+        locks: lock.ticks,
+        order: unlimited.length(),
+        plan: listed,
+        total: unlimited.total(),
         messages: taken.messages,
         alone: taken.alone,
         shared: taken.shared,
-    })
-}
-
-/// What is told of a case whatever the workers.
-#[derive(Clone, Copy)]
-struct Unlimited {
-    tree: u64,
-    locks: u64,
-    order: u64,
-    total: u64,
-}
-
-/// What is told of the case whatever the workers.
-fn unlimited_of(alloc: Global, case: Case<'_>) -> Result<Unlimited, AllocError>
-    ensures { IfOk result (IsUnlimited (instance_of case.entry)) }
-{
-    let plan = plan(alloc, case.tree, case.assigned, case.trace)?;
-    let planned = Planned { case, plan: &plan };
-    let path = longest_path(alloc, &planned)?;
-    let lock = longest_lock(alloc, &planned)?;
-    let told = Unlimited {
-        tree: path.ticks,
-        locks: lock.ticks,
-        order: plan.length(),
-        total: plan.total(),
     };
-    drop(plan);
-    Ok(told)
+    drop(unlimited);
+    Ok(figures)
 }
 
 /// The length of the list plan, none without workers.
@@ -151,19 +114,14 @@ fn list_length(alloc: Global, case: Case<'_>, wanted: &Wanted) -> Result<Option<
     ensures { IfOk result (IsListLength wanted.now.rule (instance_of case.entry) wanted.now.workers) }
 {
     match wanted.workers {
-        Some(k) => Ok(Some(length_for(alloc, case, wanted.rule, k)?)),
+        Some(k) => {
+            let made = list_plan_of(alloc, case, wanted.rule, k.number())?;
+            let length = made.plan().length();
+            drop(made);
+            Ok(Some(length))
+        }
         None => Ok(None),
     }
-}
-
-/// The length of the list plan for k workers.
-fn length_for(alloc: Global, case: Case<'_>, rule: Rule, k: Workers) -> Result<u64, AllocError>
-    ensures { IfOk result (IsLengthFor rule (instance_of case.entry) k) }
-{
-    let made = list_plan_of(alloc, case, rule, k.number())?;
-    let length = made.plan().length();
-    drop(made);
-    Ok(length)
 }
 
 /// How many locks messages use.

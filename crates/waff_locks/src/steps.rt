@@ -1,14 +1,11 @@
 //! Spaces that get locks one after another.
 
-ghost use Rattle.std.specs.Prelude.{◌≡◌, ◌↔◌, ◌<◌, ◌⊎◌, All, Contains, IfOk, IsTrue, OnOk, length};
-ghost use Rattle.waff_locks.specs.Candidates.{AreNamed};
-ghost use Rattle.waff_locks.specs.Known.{IsKnown};
-ghost use Rattle.waff_locks.specs.Steps.{AreMore, AreSteps, AreTried, ComesBefore, IsNext};
+ghost use Rattle.std.specs.Prelude.{◌≡◌, ◌↔◌, ◌<◌, ◌⊎◌, IfOk, IsTrue, length};
+ghost use Rattle.waff_locks.specs.Steps.{AreSteps, AreTried, ComesBefore, IsFirst, IsNext};
 
 use crate::candidates::candidates;
 use crate::figures::SpaceFigures;
-use crate::sets::{Known, try_each, with_one};
-use crate::wanted::Asked;
+use crate::sets::{Known, try_each};
 use std::alloc::{AllocError, Global};
 use std::thread::Threads;
 use waff_model::Locking;
@@ -17,103 +14,79 @@ use waff_model::Locking;
 pub(crate) fn steps_from<R: Threads + Sync>(
     rt: &R,
     alloc: Global,
-    asked: &Asked<'_>,
-    named: &[bool],
-    lockings: &[Locking],
-    ones: &[SpaceFigures],
     known: &Known<'_>,
+    start: &[Locking],
+    ones: &[SpaceFigures],
 ) -> Result<Vec<SpaceFigures>, AllocError>
-    requires count { length lockings.now ≡ length asked.now.layout.now.spaces }
-    requires counted { length named.now ≡ length lockings.now }
-    requires named { AreNamed asked.now.trace.now.messages named.now }
-    requires within { All (λ one. one.space < length lockings.now) ones.now }
-    requires ones { AreTried asked.now.wanted.now asked.now.layout.now asked.now.trace.now lockings.now ones.now }
-    requires known { IsKnown asked.now known.now }
-    ensures { IfOk result (λ steps. AreSteps asked.now.wanted.now asked.now.layout.now asked.now.trace.now asked.now.wanted.now.steps
-        lockings.now steps.items) }
+    requires count { length start.now ≡ length known.now.asked.now.layout.now.spaces }
+    requires ones { AreTried known.now.asked.now.wanted.now known.now.asked.now.layout.now known.now.asked.now.trace.now start.now ones.now }
+    ensures { IfOk result (λ steps. AreSteps known.now.asked.now.wanted.now known.now.asked.now.layout.now known.now.asked.now.trace.now
+        known.now.asked.now.wanted.now.steps start.now steps.items) }
 {
+    let mut lockings = Vec::from_slice(alloc, start)?;
     let mut steps = Vec::new(alloc);
-    let most = asked.wanted.steps;
-    if most == 0 {
-        return Ok(steps);
+    for n in 0..known.asked.wanted.steps {
+        match next_step(rt, alloc, known, &lockings, n, ones)? {
+            Some(step) => {
+                lockings[step.space as usize] = known.asked.wanted.kind;
+                steps.push(step)?;
+            }
+            None => return Ok(steps),
+        }
     }
-    if ones.is_empty() {
-        return Ok(steps);
-    }
-    let first = first_of(ones);
-    steps.push(first)?;
-    let locked = with_one(alloc, asked, lockings, first.space)?;
-    add_steps(rt, alloc, asked, named, locked, known, most - 1, &mut steps)?;
     Ok(steps)
 }
 
-/// Appends at most so many steps from these locks on.
-fn add_steps<R: Threads + Sync>(
-    rt: &R,
-    alloc: Global,
-    asked: &Asked<'_>,
-    named: &[bool],
-    start: Vec<Locking>,
-    known: &Known<'_>,
-    most: u32,
-    steps: &mut Vec<SpaceFigures>,
-) -> Result<(), AllocError>
-    requires count { length start.items ≡ length asked.now.layout.now.spaces }
-    requires counted { length named.now ≡ length start.items }
-    requires named { AreNamed asked.now.trace.now.messages named.now }
-    requires known { IsKnown asked.now known.now }
-    ensures { OnOk result (AreMore asked.now.wanted.now asked.now.layout.now asked.now.trace.now most start.items
-        steps.old.items steps.new.items) }
-{
-    let mut lockings = start;
-    for _ in 0..most {
-        match next_step(rt, alloc, asked, named, &lockings, known)? {
-            Some(step) => {
-                lockings[step.space as usize] = asked.wanted.kind;
-                steps.push(step)?;
-            }
-            None => return Ok(()),
-        }
-    }
-    Ok(())
-}
-
-/// The first of the candidates beside these locks, if there is one.
+/// The first of the candidates beside these locks, if there is one. At the first step these are known.
 fn next_step<R: Threads + Sync>(
     rt: &R,
     alloc: Global,
-    asked: &Asked<'_>,
-    named: &[bool],
-    lockings: &[Locking],
     known: &Known<'_>,
+    lockings: &[Locking],
+    n: u32,
+    ones: &[SpaceFigures],
 ) -> Result<Option<SpaceFigures>, AllocError>
-    requires count { length lockings.now ≡ length asked.now.layout.now.spaces }
-    requires counted { length named.now ≡ length lockings.now }
-    requires named { AreNamed asked.now.trace.now.messages named.now }
-    requires known { IsKnown asked.now known.now }
-    ensures { IfOk result (IsNext asked.now.wanted.now asked.now.layout.now asked.now.trace.now lockings.now) }
+    requires count { length lockings.now ≡ length known.now.asked.now.layout.now.spaces }
+    requires ones { n ≡ 0 → AreTried known.now.asked.now.wanted.now known.now.asked.now.layout.now known.now.asked.now.trace.now
+        lockings.now ones.now }
+    ensures { IfOk result (IsNext known.now.asked.now.wanted.now known.now.asked.now.layout.now known.now.asked.now.trace.now lockings.now) }
 {
-    // Its contract tells `IsLayout`.
-    let _spaces = asked.layout.space_count();
-    let left = candidates(alloc, asked.wanted.kind, lockings, named)?;
-    if left.is_empty() {
-        return Ok(None);
+    if n == 0 {
+        return Ok(first_of(ones));
     }
-    let tried = try_each(rt, alloc, asked, lockings, &left, known)?;
-    Ok(Some(first_of(&tried)))
+    let tried = try_all(rt, alloc, known, lockings)?;
+    Ok(first_of(&tried))
 }
 
-/// The first of these.
-fn first_of(tried: &[SpaceFigures]) -> SpaceFigures
-    requires { 0 < length tried.now }
-    ensures among { Contains tried.now result }
-    ensures first { All (λ other. ¬ ComesBefore other result) tried.now }
+/// The candidates beside these locks, each with its figures.
+pub(crate) fn try_all<R: Threads + Sync>(
+    rt: &R,
+    alloc: Global,
+    known: &Known<'_>,
+    lockings: &[Locking],
+) -> Result<Vec<SpaceFigures>, AllocError>
+    requires { length lockings.now ≡ length known.now.asked.now.layout.now.spaces }
+    ensures { IfOk result (λ tried. AreTried known.now.asked.now.wanted.now known.now.asked.now.layout.now known.now.asked.now.trace.now
+        lockings.now tried.items) }
 {
+    // Its contract tells `IsLayout`.
+    let _spaces = known.asked.layout.space_count();
+    let spaces = candidates(alloc, known.asked.wanted.kind, lockings, known.named)?;
+    try_each(rt, alloc, known, lockings, &spaces)
+}
+
+/// The first of these, if there is one.
+fn first_of(tried: &[SpaceFigures]) -> Option<SpaceFigures>
+    ensures { IsFirst tried.now result }
+{
+    if tried.is_empty() {
+        return None;
+    }
     let mut first = tried[0];
     for i in 1..tried.len() {
         first = earlier(first, tried[i]);
     }
-    first
+    Some(first)
 }
 
 /// The second of both where it comes before the first, else the first.

@@ -9,8 +9,8 @@ ghost use Rattle.waff_locks.specs.LocksText.{TellsLocks, locks_header, locks_lin
 
 use crate::candidates::{candidates, locked_too, named_spaces};
 use crate::figures::{SetFigures, SpaceFigures};
-use crate::sets::{Ends, Known, both_ends, try_each};
-use crate::steps::steps_from;
+use crate::sets::{Known, both_ends};
+use crate::steps::{steps_from, try_all};
 use crate::wanted::{Asked, Wanted};
 use std::alloc::{AllocError, Global};
 use std::fmt;
@@ -61,33 +61,35 @@ fn told_text<R: Threads + Sync>(
     let all = locked_too(alloc, asked.wanted.kind, spaces, lockings)?;
     let ends = both_ends(rt, alloc, asked, lockings, &all)?;
     let known = Known {
-        lockings: &all,
-        figures: ends.all,
+        asked,
+        named,
+        all: &all,
+        figures: ends.1,
     };
-    let ones = try_each(rt, alloc, asked, lockings, spaces, &known)?;
-    let steps = steps_from(rt, alloc, asked, named, lockings, &ones, &known)?;
-    lines_text(alloc, asked.layout, &ends, &ones, &steps)
+    let ones = try_all(rt, alloc, &known, lockings)?;
+    let steps = steps_from(rt, alloc, &known, lockings, &ones)?;
+    lines_text(alloc, asked.layout, ends, &ones, &steps)
 }
 
 /// The text of these figures.
 fn lines_text(
     alloc: Global,
     layout: &Layout,
-    ends: &Ends,
+    ends: (SetFigures, SetFigures),
     ones: &[SpaceFigures],
     steps: &[SpaceFigures],
 ) -> Result<String, AllocError>
     requires ones { All (λ one. one.space < length layout.now.spaces) ones.now }
     requires steps { All (λ step. step.space < length layout.now.spaces) steps.now }
     ensures { IfOk result (λ text. string_bytes text
-        ≡ text_of (locks_lines layout.now.spaces ends.now.before ones.now steps.now ends.now.all)) }
+        ≡ text_of (locks_lines layout.now.spaces ends.0 ones.now steps.now ends.1)) }
 {
     let mut text = String::new(alloc);
     push_header(&mut text)?;
-    push_row(&mut text, "as it is", "-", &ends.before)?;
+    push_row(&mut text, "as it is", "-", &ends.0)?;
     push_spaces(&mut text, "one", layout, ones)?;
     push_spaces(&mut text, "then", layout, steps)?;
-    push_row(&mut text, "all", "-", &ends.all)?;
+    push_row(&mut text, "all", "-", &ends.1)?;
     Ok(text)
 }
 

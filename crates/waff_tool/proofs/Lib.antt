@@ -15,6 +15,7 @@ mod ExplainedLines
 pub mod FigureUniqueness
 pub mod LimitsTexts
 mod LineLaws
+mod LocksTexts
 pub mod NeedsTexts
 mod OrderLemmas
 mod OwnPlanLaws

@@ -1,9 +1,11 @@
 //! What limits a workload.
-ghost use Rattle.std.specs.Prelude.{◌≡◌, ◌<◌, ℕ, List, IfOk};
+ghost use Rattle.std.specs.Prelude.{◌≡◌, ◌<◌, ℕ, List, IfOk, Option};
 ghost use Rattle.std.specs.Prelude.{length, string_bytes};
 ghost use Rattle.waff_model.specs.Messages.{sizes_of};
 ghost use Rattle.waff_assign.specs.Case.{instance_of};
 ghost use Rattle.waff_assign.specs.Lowest.{IsAssignment};
+ghost use Rattle.waff_model.specs.declared.locking.Locking.{Locking};
+ghost use Rattle.waff_tool.specs.LocksText.{LocksAreOfLimits};
 ghost use Rattle.waff_tool.specs.LimitsText.{AfterIsBetweenInText, DataBoundsTexts};
 ghost use Rattle.waff_tool.specs.LimitsText.{LimitsAreSwept, NoneIsBelowText};
 ghost use Rattle.waff_tool.specs.LimitsText.{OrderIsBetweenInText, OrderIsShortestInText};
@@ -99,4 +101,11 @@ pub fn tree_is_reached_in_text()
 pub fn data_bounds_texts()
     ensures { (rule other_rule : Rule) (hierarchy_file other_file trace_file : List ℕ)
         → DataBoundsTexts rule other_rule hierarchy_file other_file trace_file }
+{}
+
+/// What `locks` tells in a line is what it tells under the hierarchy that the line names: of the tree, the locks and the order, and of the
+/// plan for as many workers by the same rule.
+pub fn locks_are_of_limits()
+    ensures { (workers : Option ℕ) (rule : Rule) (kind : Locking) (steps : ℕ) (hierarchy_file trace_file : List ℕ)
+        → LocksAreOfLimits workers rule kind steps hierarchy_file trace_file }
 {}

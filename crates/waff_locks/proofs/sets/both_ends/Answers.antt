@@ -1,16 +1,17 @@
+use Rattle.std.proofs.Common.{List, rules, subst}
 use Rattle.std.proofs.lemmas.Result.{IfOk-at_ok}
-use Rattle.std.proofs.Common.{List, subst}
+use Rattle.std.proofs.lemmas.Slice.Eq.{slice_eq-Decides}
 use Rattle.waff_model.specs.declared.locking.Locking.{Locking}
 use Rattle.waff_locks.specs.Sets.{AreFiguresWith}
 use Rattle.waff_locks.proofs.sets.both_ends.Goals as goal
 
-pub returns-then-are_same : goal.returns-then-are_same
-returns-then-are_same g c =
+pub returns-then-eq : goal.returns-then-eq
+returns-then-eq g c =
     let asked = c.args.asked.now in
     record {
       before = c.in_ok-before.ensures;
       all = subst (λ (lockings : List Locking). AreFiguresWith asked.wanted.now asked.layout.now asked.trace.now lockings c.in_ok-before.before)
-          (c.are_same.ensures c.if-are_same.true) c.in_ok-before.ensures;
+          ((slice_eq-Decides (λ (a b : Locking). search rules) c.args.lockings.now c.args.all.now c.eq.result c.eq.ensures).0 c.if-eq.true) c.in_ok-before.ensures;
     }
 
 pub returns : goal.returns

@@ -1,7 +1,7 @@
 use Rattle.std.proofs.Common.{◌≡◌, ◌++◌, drop, length, take, get_or, None, IfSome, arith, ap, subst, ◌∙◌}
 use Rattle.std.proofs.Math.Seq.{take-append_seam}
 use Rattle.std.proofs.lemmas.Result.{IfOk-weaker}
-use Rattle.waff_locks.specs.Known.{IsMade}
+use Rattle.waff_locks.specs.Steps.{IsMade}
 use Rattle.waff_locks.specs.declared.figures.SpaceFigures.{SpaceFigures}
 use Rattle.waff_locks.proofs.Trying.{made_in_turn, made_of_each}
 use Rattle.waff_locks.proofs.sets.try_each.Goals as goal
@@ -24,9 +24,9 @@ returns g c =
           subst (λ place. IfSome place (λ (one : SpaceFigures). one.space ≡ get_or spaces i 0)) at.left at.call.0))
           c.all_made.ensures;
       each = IfOk-weaker c.all_made.result _ _
-          (λ tried same. made_of_each (IsMade c.args.asked.now c.args.lockings.now) made tried.items (same ∙ back)
+          (λ tried same. made_of_each (IsMade c.args.known.now.asked.now c.args.lockings.now) made tried.items (same ∙ back)
           (λ i inside.
           let at = (c.for_each_mut.ensures i None (omega (arith, kept, inside))).1 in
-          subst (λ place. IfSome place (IsMade c.args.asked.now c.args.lockings.now)) at.left at.call.1))
+          subst (λ place. IfSome place (IsMade c.args.known.now.asked.now c.args.lockings.now)) at.left at.call.1))
           c.all_made.ensures;
     }

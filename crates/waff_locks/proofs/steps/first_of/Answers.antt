@@ -6,7 +6,7 @@ use Rattle.waff_locks.proofs.steps.first_of.Goals as goal
 
 pub loop-i-init : goal.loop-i-init
 loop-i-init c =
-    let one = first_one c.args.tried.now _ c.requires in
+    let one = first_one c.args.tried.now _ (omega (arith, c.if-is_empty.false)) in
     record { among = one.0; first = one.1 }
 
 pub loop-i-preserved : goal.loop-i-preserved
@@ -15,7 +15,9 @@ loop-i-preserved c = record {
   first = first_more c.args.tried.now c.loop-i.i c.loop-i.first _ c.earlier-first.result c.loop-i-test.true c.loop-i.invariant.first c.earlier-first.ensures.is c.earlier-first.ensures.none;
 }
 
-pub returns-clause-first : goal.returns-clause-first
-returns-clause-first c =
-    let first = c.loop-i.first in
-    subst (All (λ other. ¬ ComesBefore other first)) (take_all c.loop-i.i c.args.tried.now (omega (arith, c.loop-i-test.false))) c.loop-i.invariant.first
+pub returns : goal.returns
+returns c =
+    let first = c.loop-i.first in (
+      c.loop-i.invariant.among,
+      subst (All (λ other. ¬ ComesBefore other first)) (take_all c.loop-i.i c.args.tried.now (omega (arith, c.loop-i-test.false))) c.loop-i.invariant.first,
+    )

@@ -1,17 +1,18 @@
-use Rattle.std.proofs.Common.{All, Contains, List, subst, ◌∙◌}
-use Rattle.waff_locks.specs.Steps.{ComesBefore}
+use Rattle.std.proofs.Common.{List, arith, sym, subst}
+use Rattle.waff_locks.specs.Steps.{AreTried}
 use Rattle.waff_locks.specs.declared.figures.SpaceFigures.{SpaceFigures}
+use Rattle.waff_locks.proofs.Stepping.{next_is}
 use Rattle.waff_locks.proofs.steps.next_step.Goals as goal
+
+pub returns-then-n-eq0 : goal.returns-then-n-eq0
+returns-then-n-eq0 g c =
+    let asked = c.args.known.now.asked.now in
+    next_is asked.wanted.now asked.layout.now asked.trace.now c.args.lockings.now c.args.ones.now c.first_of.result (c.requires.ones (omega (arith, c.if-n-eq0.true)))
+    c.first_of.ensures
 
 pub returns : goal.returns
 returns g c =
-    let step = c.first_of.result in
-    record {
-      tried = c.in_ok-tried.tried.items;
-      are_tried = record {
-        in_turn = c.in_ok-tried.ensures.in_turn ∙ c.deref.ensures.value ∙ c.in_ok-left.ensures.spaces c.args.asked.now.trace.now.messages c.requires.named;
-        each = c.in_ok-tried.ensures.each;
-      };
-      among = subst (λ (xs : List SpaceFigures). Contains xs step) c.deref-2.ensures.value c.first_of.ensures.among;
-      first = subst (λ (xs : List SpaceFigures). All (λ other. ¬ ComesBefore other step) xs) c.deref-2.ensures.value c.first_of.ensures.first;
-    }
+    let asked = c.args.known.now.asked.now in
+    let tried = subst (λ (xs : List SpaceFigures). AreTried asked.wanted.now asked.layout.now asked.trace.now c.args.lockings.now xs) (sym c.deref.ensures.value)
+    c.in_ok-tried.ensures in
+    next_is asked.wanted.now asked.layout.now asked.trace.now c.args.lockings.now c.deref.result.now c.first_of-2.result tried c.first_of-2.ensures

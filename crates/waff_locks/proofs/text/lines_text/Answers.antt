@@ -6,8 +6,8 @@ use Rattle.waff_locks.proofs.text.lines_text.Goals as goal
 pub returns : goal.returns
 returns c =
     let spaces = c.args.layout.now.spaces in
-    let ends = c.args.ends.now in
-    five_parts locks_header (locks_row (codes "as it is") (codes "-") ends.before) (locks_row (codes "all") (codes "-") ends.all)
+    let ends = c.args.ends in
+    five_parts locks_header (locks_row (codes "as it is") (codes "-") ends.0) (locks_row (codes "all") (codes "-") ends.1)
     (map (space_row (codes "one") spaces) c.args.ones.now) (map (space_row (codes "then") spaces) c.args.steps.now)
     (string_bytes c.push_header.new.text) (string_bytes c.push_row.new.text) (string_bytes c.push_spaces.new.text) (string_bytes c.push_spaces-2.new.text)
     (string_bytes c.push_row-2.new.text)
