@@ -1,5 +1,6 @@
 -- Steps, and which space comes first.
-use Rattle.std.proofs.Common.{◌≡◌, ◌↔◌, Bool, IsTrue, false, ℕ, zero, suc, ◌+◌, ◌-◌, ◌<◌, ◌⊎◌, ◌++◌, inl, inr, All, Contains, List, [], ◌∷◌, Option, Some, None, length, get_or, map, take, append_assoc, refl, sym, ◌∙◌, ap, subst, arith}
+use Rattle.std.proofs.Common.{◌≡◌, ◌↔◌, Bool, IsTrue, true, false, eqb, ℕ, zero, suc, ◌+◌, ◌-◌, ◌<◌, ◌⊎◌, ◌++◌, inl, inr, All, Contains, List, [], ◌∷◌, Option, Some, None, length, get_or, map, take, append_assoc, refl, sym, ◌∙◌, ap, subst, arith}
+use Rattle.std.proofs.lemmas.Bool.{eqb-true}
 use Rattle.std.proofs.lemmas.List.{append-nil, get_or-map, length-map, length-set}
 use Rattle.std.proofs.lemmas.List.Elements.{All-cons, All-more, All-nil, All-weaker, Contains-get_or}
 use Rattle.waff_model.specs.Layout.{Hierarchy}
@@ -42,6 +43,15 @@ onward one two three = less_onward (ranks_of one) (ranks_of two) (ranks_of three
 
 pub not_before_itself : (one : SpaceFigures) → ¬ ComesBefore one one
 not_before_itself one = not_itself (ranks_of one)
+
+-- none are tried, or some
+pub none_tried : (tried : List SpaceFigures) → eqb (length tried) 0 ≡ true → tried ≡ []
+none_tried [] none = refl
+none_tried (one ∷ tried) none = absurd (omega (arith, eqb-true (length (one ∷ tried)) 0 none))
+
+pub some_tried : (tried : List SpaceFigures) → eqb (length tried) 0 ≡ false → 0 < length tried
+some_tried [] some = absurd (let wrong : true ≡ false = some in cc)
+some_tried (one ∷ tried) some = omega arith
 
 -- the first so far
 pub first_one : (tried : List SpaceFigures) (d : SpaceFigures) → 0 < length tried

@@ -66,7 +66,7 @@ pub(crate) fn candidates(
 {
     let mut spaces = Vec::new(alloc);
     for s in 0..lockings.len() {
-        let may = are_new(kind, lockings[s]) && named[s];
+        let may = may_lock(kind, lockings[s], named[s]);
         push_if(&mut spaces, s as u32, may)?;
     }
     Ok(spaces)
@@ -80,6 +80,13 @@ fn push_if(spaces: &mut Vec<u32>, s: u32, may: bool) -> Result<(), AllocError>
         spaces.push(s)?;
     }
     Ok(())
+}
+
+/// Whether a space with these locks is a candidate, which is named or not.
+fn may_lock(kind: Locking, there: Locking, named: bool) -> bool
+    ensures { result ≡ (are_new kind there && named) }
+{
+    are_new(kind, there) && named
 }
 
 /// Whether locks of the first kind would be new.

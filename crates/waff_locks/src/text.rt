@@ -44,12 +44,12 @@ pub fn locks_text<R: Threads + Sync>(
 }
 
 /// The text, where the hierarchy has these locks, messages name cells of these spaces, and these are the candidates.
-fn told_text<R: Threads + Sync>(
+fn told_text<'x, R: Threads + Sync>(
     rt: &R,
     alloc: Global,
-    asked: &Asked<'_>,
+    asked: &'x Asked<'x>,
     lockings: &[Locking],
-    named: &[bool],
+    named: &'x [bool],
     spaces: &[u32],
 ) -> Result<String, AllocError>
     requires lockings { lockings.now ≡ lockings_of asked.now.layout.now.spaces }

@@ -12,7 +12,7 @@ loop-s-preserved c =
     let named = c.args.named.now in
     let s = c.loop-s.s in
     let test = is_one c.args.kind lockings named in
-    let may = c.may.ensures
+    let may = c.may_lock-may.ensures
     ∙ ap₂ (λ there b. are_new c.args.kind there && b) (get_or_default lockings s _ Unlocked c.loop-s-test.true)
     (get_or_default named s _ false (omega (arith, c.loop-s-test.true, c.requires.count))) in
     c.in_ok-push_if.ensures

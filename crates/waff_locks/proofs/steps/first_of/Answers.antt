@@ -1,12 +1,15 @@
-use Rattle.std.proofs.Common.{All, arith, subst}
+use Rattle.std.proofs.Common.{All, arith, sym, ◌∙◌, subst}
 use Rattle.std.proofs.lemmas.List.{take_all}
 use Rattle.waff_locks.specs.Steps.{ComesBefore}
-use Rattle.waff_locks.proofs.Stepping.{among_more, first_more, first_one}
+use Rattle.waff_locks.proofs.Stepping.{among_more, first_more, first_one, none_tried, some_tried}
 use Rattle.waff_locks.proofs.steps.first_of.Goals as goal
+
+pub returns-then-is_empty : goal.returns-then-is_empty
+returns-then-is_empty c = none_tried c.args.tried.now (sym c.is_empty.ensures ∙ c.if-is_empty.true)
 
 pub loop-i-init : goal.loop-i-init
 loop-i-init c =
-    let one = first_one c.args.tried.now _ (omega (arith, c.if-is_empty.false)) in
+    let one = first_one c.args.tried.now _ (some_tried c.args.tried.now (sym c.is_empty.ensures ∙ c.if-is_empty.false)) in
     record { among = one.0; first = one.1 }
 
 pub loop-i-preserved : goal.loop-i-preserved

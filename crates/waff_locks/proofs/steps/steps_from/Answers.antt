@@ -15,10 +15,10 @@ loop-n-init g c =
     let whole : most ≡ most - 0 = omega arith in
     let behind = AreBehind asked.wanted.now asked.layout.now asked.trace.now most start in
     record {
-      count = ap length c.in_ok-lockings.ensures ∙ c.requires.count;
-      first = λ _. c.in_ok-lockings.ensures;
+      count = ap length c.in_ok-lockings.ensures.items ∙ c.requires.count;
+      first = λ _. c.in_ok-lockings.ensures.items;
       behind = subst (λ (taken : List SpaceFigures). behind (most - 0) c.in_ok-lockings.lockings.items taken) (sym c.new-steps.ensures.items)
-          (subst (λ (xs : List Locking). behind (most - 0) xs []) (sym c.in_ok-lockings.ensures)
+          (subst (λ (xs : List Locking). behind (most - 0) xs []) (sym c.in_ok-lockings.ensures.items)
           (subst (λ n. behind n start []) whole (none_behind asked.wanted.now asked.layout.now asked.trace.now most start)));
     }
 
