@@ -61,8 +61,8 @@ fn told_text<'x, R: Threads + Sync>(
     let all = locked_too(alloc, asked.wanted.kind, spaces, lockings)?;
     let ends = both_ends(rt, alloc, asked, lockings, &all)?;
     let known = Known {
-        asked,
-        named,
+        asked: &*asked,
+        named: &*named,
         all: &all,
         figures: ends.1,
     };
