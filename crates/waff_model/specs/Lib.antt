@@ -19,6 +19,7 @@ pub mod Numbers
 pub mod Versions
 pub mod Clients
 pub mod Awaits
+pub mod KeptAwaits
 pub mod Messages
 pub mod Later
 pub mod Blocks

@@ -2,12 +2,14 @@
 
 ghost use Rattle.std.specs.Prelude.{◌≡◌, [], IfOk};
 
+use arrayvec::ArrayVec;
 use std::alloc::{AllocError, Global};
 use std::marker::Model;
+use std::slice::from_ref;
 use std::sync::Arc;
 
 /// A message that another awaits, and how many ticks after its finish the other is issued at the soonest.
-#[derive(Clone, Copy, Debug, PartialEq)]
+#[derive(Clone, Copy, Debug, Default, PartialEq)]
 pub struct Await {
     /// The number of the message that is awaited, from 1.
     pub message: u32,
@@ -15,26 +17,39 @@ pub struct Await {
     pub gap: u32,
 }
 
-/// The messages that a message awaits by its list. A list lies elsewhere, so that the many messages that have
-/// none are hardly longer for it, and copies share it.
+// So many messages lie in one allocation. Most lists are as short.
+const FEW: usize = 4;
+
+/// The messages that a message awaits by its list. But for a single one they lie elsewhere, and copies share
+/// them.
 pub struct Awaits {
-    list: Option<Arc<Vec<Await>>>,
+    kept: Kept,
+}
+
+// Where a list is kept.
+#[derive(Drop)]
+enum Kept {
+    Nowhere,
+    One(Await),
+    Few(Arc<ArrayVec<Await, FEW>>),
+    Many(Arc<Vec<Await>>),
 }
 
 impl Model for Awaits {
-    ghost use Rattle.std.specs.Prelude.{List, [], option_map, unwrap_or};
+    ghost use Rattle.std.specs.Prelude.{List};
+    ghost use Rattle.waff_model.specs.KeptAwaits.{kept_awaits};
     ghost use Rattle.waff_model.specs.declared.awaits.Await.{Await};
 
     ghost Value = { List Await };
 
-    ghost view = { λ a. unwrap_or (option_map (λ list. list.value.items) a.list) [] };
+    ghost view = { λ a. kept_awaits a.kept };
 }
 
 // Written out: a derived drop is proved again in each crate that lets go of the value.
 impl Drop for Awaits {
     fn drop(self) {
-        let Awaits { list } = self;
-        drop(list);
+        let Awaits { kept } = self;
+        drop(kept);
     }
 }
 
@@ -43,40 +58,48 @@ impl Awaits {
     pub fn none() -> Self
         ensures { result ≡ [] }
     {
-        Awaits { list: None }
+        Awaits {
+            kept: Kept::Nowhere,
+        }
     }
 
     /// These messages.
     pub fn of(alloc: Global, list: Vec<Await>) -> Result<Self, AllocError>
         ensures { IfOk result (λ awaits. awaits ≡ list.items) }
     {
-        if list.is_empty() {
-            return Ok(Awaits::none());
-        }
-        Ok(Awaits {
-            list: Some(Arc::new(alloc, list)?),
-        })
+        let kept = match list.as_slice() {
+            [] => Kept::Nowhere,
+            [one] => Kept::One(*one),
+            some => match ArrayVec::try_from(some) {
+                Ok(few) => Kept::Few(Arc::new(alloc, few)?),
+                Err(_) => Kept::Many(Arc::new(alloc, list)?),
+            },
+        };
+        Ok(Awaits { kept })
     }
 
     /// The same messages.
     pub fn share(&self) -> Result<Self, AllocError>
         ensures { IfOk result (λ awaits. awaits ≡ self.now) }
     {
-        match &self.list {
-            Some(list) => Ok(Awaits {
-                list: Some(Arc::try_clone(list)?),
-            }),
-            None => Ok(Awaits::none()),
-        }
+        let kept = match &self.kept {
+            Kept::Nowhere => Kept::Nowhere,
+            Kept::One(one) => Kept::One(*one),
+            Kept::Few(few) => Kept::Few(Arc::try_clone(few)?),
+            Kept::Many(many) => Kept::Many(Arc::try_clone(many)?),
+        };
+        Ok(Awaits { kept })
     }
 
     /// The messages.
     pub fn as_slice(&self) -> &[Await]
         ensures { result.now ≡ self.now }
     {
-        match &self.list {
-            Some(list) => list.as_slice(),
-            None => &[],
+        match &self.kept {
+            Kept::Nowhere => &[],
+            Kept::One(one) => from_ref(one),
+            Kept::Few(few) => few.as_slice(),
+            Kept::Many(many) => many.as_slice(),
         }
     }
 }
