@@ -401,8 +401,8 @@ A line for each pair of affinities of which one waits for the other, in the plan
 without a limit on workers, or in that for K workers:
   affinity  that of the messages that wait
   for       that of the messages they wait for; - for a worker
-  by        under locks alone: the space of the lock they wait for; - for a worker
-            and for affinities that exclude each other
+  by        under locks alone: the space of the lock they wait for; - for a
+            worker and for affinities that exclude each other
   messages  how many wait so
   ticks     how long they wait in all
   longest   how long one of them waits
