@@ -9,10 +9,12 @@ use std::process::Abort;
 use std::rt::Clock;
 use std::sync::{Mutex, Wait};
 use std::thread::Threads;
-use waff_inputs::accept;
+use waff_inputs::{accept, accept_over_layout, read_numbered};
 use waff_model::Cell;
 use waff_record::Recorded;
-use waff_run::{Pace, Places, RunError, Settings, Spot, Store, StoreFault, run_on, silent_hands};
+use waff_run::{
+    Broken, Pace, Places, RunError, Settings, Spot, Store, StoreFault, run_on, silent_hands,
+};
 
 /// Files of 64 bytes each, without a lock that waits: a file that somebody else holds is a fault, since the tree
 /// lets nobody run beside who writes it.
@@ -103,6 +105,7 @@ fn settings<'a>(workers: u32) -> Settings<'a>
         fill: true,
         sync_writes: true,
         syncs: &[],
+        partial: false,
     }
 }
 
@@ -115,10 +118,29 @@ fn ran<R: Abort + Threads + Wait + Clock + Eprint + Sync>(
 ) -> Result<Recorded, RunError>
     requires { IsWorkers workers }
 {
+    match ran_by(rt, alloc, store, &settings(workers)) {
+        Ok(told) => Ok(told),
+        Err(Broken { error, told }) => {
+            drop(told);
+            Err(error)
+        }
+    }
+}
+
+/// The same with these settings, and what is told of a run that breaks off.
+fn ran_by<R: Abort + Threads + Wait + Clock + Eprint + Sync>(
+    rt: &R,
+    alloc: Global,
+    store: &Memory,
+    settings: &Settings<'_>,
+) -> Result<Recorded, Broken>
+    requires workers { IsWorkers settings.now.pace.workers }
+    requires tick { 1 ≤ settings.now.pace.tick }
+{
     let (hierarchy, trace) = (HIERARCHY.as_bytes(), TRACE.as_bytes());
-    let accepted = accept(alloc, hierarchy, trace).expect(rt, "files");
+    let layout = read_numbered(alloc, 1, hierarchy).expect(rt, "hierarchy");
+    let accepted = accept_over_layout(rt, alloc, layout, trace).expect(rt, "files");
     let places = Places::of(alloc, &accepted.layout, 8).expect(rt, "places");
-    let settings = settings(workers);
     let count = accepted.trace.len() as usize;
     let hands = silent_hands(alloc, count).expect(rt, "memory");
     let ran = run_on(
@@ -131,11 +153,11 @@ fn ran<R: Abort + Threads + Wait + Clock + Eprint + Sync>(
         &mut (),
         hands,
         &places,
-        &settings,
+        settings,
     );
     match ran {
         Ok(ran) => Ok(ran.told),
-        Err(error) => Err(error),
+        Err(broken) => Err(broken),
     }
 }
 
@@ -181,5 +203,28 @@ fn tells_a_fault_of_the_store(rt: HostRuntime) {
     match ran(&rt, rt.alloc(), &store, 2) {
         Err(RunError::File(name)) => assert_eq!(rt; name.as_str(), "s.1"),
         _ => panic!(rt; "no fault"),
+    }
+}
+
+#[test]
+fn tells_what_is_left_where_that_is_wanted(rt: HostRuntime) {
+    let store = Memory::of(&rt, rt.alloc(), 1);
+    let mut settings = settings(2);
+    settings.fill = false;
+    settings.partial = true;
+    let Err(broken) = ran_by(&rt, rt.alloc(), &store, &settings) else {
+        panic!(rt; "no fault");
+    };
+    let Broken { error, told } = broken;
+    match error {
+        RunError::File(name) => assert_eq!(rt; name.as_str(), "s.1"),
+        _ => panic!(rt; "no fault of the store"),
+    }
+    match told {
+        Some(left) => assert_eq!(rt;
+            left.measured.as_str(),
+            "message,cost,release,client,think,ops\n"
+        ),
+        None => panic!(rt; "nothing is told"),
     }
 }

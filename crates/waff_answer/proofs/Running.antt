@@ -1,10 +1,12 @@
 -- What the program ends with where it runs messages.
-use Rattle.std.proofs.Common.{◌≡◌, ◌⊎◌, ℕ, List, Option, Result, Ok, Err, inl, inr, refl, subst, sym}
-use Rattle.std.specs.Prelude.{IfErr, IfOk, OnOk}
-use Rattle.std.specs.Io.KnownBytes.{Appends, Keeps}
+use Rattle.std.proofs.Common.{◌≡◌, ◌⊎◌, ℕ, List, Option, None, Some, Ok, true, inl, inr, refl, subst, sym}
+use Rattle.std.specs.Prelude.{IfSome}
+use Rattle.std.specs.Io.KnownBytes.{Keeps}
 use Rattle.waff_io.specs.Writing.{AppendsPart}
+use Rattle.waff_assign.specs.Held.{Held}
 use Rattle.waff_assign.specs.Instance.{Instance}
-use Rattle.waff_inputs.specs.Inputs.{Accepts, Refuses}
+use Rattle.waff_assign.specs.Lowest.{IsAssignment}
+use Rattle.waff_inputs.specs.Inputs.{Accepts, Refuses, instance_under}
 use Rattle.waff_inputs.specs.declared.fault.ToolError.TheVariants as tool
 use Rattle.waff_model.specs.Layout.{Hierarchy}
 use Rattle.waff_model.specs.Messages.{Arrivals}
@@ -16,26 +18,26 @@ use Rattle.waff_run.specs.Places.{Placing, placing_of}
 use Rattle.waff_cli.specs.declared.task.RunTask.{RunTask}
 use Rattle.waff_run.specs.declared.fault.RunError.{RunError}
 use Rattle.waff_run.specs.declared.fault.RunError.TheVariants as run
-use Rattle.waff_answer.specs.Runs.{HasPart, IsOfTask, IsRunText, RefusesRun, told_by}
-use Rattle.waff_answer.specs.declared.runs.Went.{Went}
+use Rattle.waff_answer.specs.Runs.{IsOfTask, IsPartText, IsRunText, LeavesPart, RefusesRun, told_by}
 
 -- where the text of a run was not written whole, the output has nothing or a part of it
-pub has_part : {A : Type 0} (hierarchy_file trace_file : List ℕ) (k tick : ℕ) (text : List ℕ) (drift : Option ℕ) (old new : Option (List ℕ))
-    (written : Result A RunError) → IsRunText hierarchy_file trace_file k tick text drift → IfErr written (λ error. error ≡ run.Tool tool.Write)
-    → IfErr written (λ _. Keeps old new ⊎ AppendsPart old new text)
-    → IfErr written (λ error. HasPart hierarchy_file trace_file k tick error old new)
-has_part hierarchy_file trace_file k tick text drift old new (Ok a) is fault part = tt
-has_part hierarchy_file trace_file k tick text drift old new (Err e) is fault (inl keeps) = inl keeps
-has_part hierarchy_file trace_file k tick text drift old new (Err e) is fault (inr part) = inr (fault, text, drift, is, part)
+pub leaves_part : (hierarchy_file trace_file : List ℕ) (wanted : RunTask) (error : RunError) (text : List ℕ) (drift : Option ℕ) (old new : Option (List ℕ))
+    → IsRunText hierarchy_file trace_file wanted.words.workers wanted.words.tick text drift → error ≡ run.Tool tool.Write
+    → Keeps old new ⊎ AppendsPart old new text → LeavesPart hierarchy_file trace_file wanted error None old new
+leaves_part hierarchy_file trace_file wanted error text drift old new is fault (inl keeps) = inr (refl, inl keeps)
+leaves_part hierarchy_file trace_file wanted error text drift old new is fault (inr part) = inr (refl, inr (text, drift, inl (fault, is), part))
 
--- where it was written whole, the drift that is told is its own
-pub run_written : (hierarchy_file trace_file : List ℕ) (k tick : ℕ) (text : List ℕ) (drift : Option ℕ) (old new : Option (List ℕ))
-    (written : Result Went RunError) → IsRunText hierarchy_file trace_file k tick text drift → IfOk written (λ went. went.drift ≡ drift)
-    → OnOk written (Appends old new text)
-    → IfOk written (λ went. (text : List ℕ) × IsRunText hierarchy_file trace_file k tick text went.drift × Appends old new text)
-run_written hierarchy_file trace_file k tick text drift old new (Ok went) is same appends =
-    (text, subst (λ (d : Option ℕ). IsRunText hierarchy_file trace_file k tick text d) (sym same) is, appends)
-run_written hierarchy_file trace_file k tick text drift old new (Err e) is same appends = tt
+-- the same of what is left of one
+pub leaves_left : (hierarchy_file trace_file : List ℕ) (wanted : RunTask) (error : RunError) (text : List ℕ) (drift : Option ℕ) (old new : Option (List ℕ))
+    → wanted.words.partial ≡ true → IsPartText hierarchy_file trace_file wanted.words.workers wanted.words.tick text drift
+    → Keeps old new ⊎ AppendsPart old new text → LeavesPart hierarchy_file trace_file wanted error None old new
+leaves_left hierarchy_file trace_file wanted error text drift old new so is (inl keeps) = inr (refl, inl keeps)
+leaves_left hierarchy_file trace_file wanted error text drift old new so is (inr part) = inr (refl, inr (text, drift, inr (so, is), part))
+
+-- where nothing was told, the output is as it was
+pub leaves_none : (hierarchy_file trace_file : List ℕ) (wanted : RunTask) (error : RunError) (old new : Option (List ℕ)) → Keeps old new
+    → LeavesPart hierarchy_file trace_file wanted error None old new
+leaves_none hierarchy_file trace_file wanted error old new keeps = inr (refl, inl keeps)
 
 -- a fault of the tools that is one of a run tells nothing of the files
 of_tool : (layout : Hierarchy) (trace : Arrivals) (wanted : RunTask) (error : ToolError) → IsOfTask layout trace wanted (run.Tool error)
@@ -76,9 +78,22 @@ pub of_memory : (layout : Hierarchy) (trace : Arrivals) (wanted : RunTask) (erro
 of_memory layout trace wanted error is = subst (IsOfTask layout trace wanted) (sym is) (inl (inl refl))
 
 -- so does a writer's fault
-pub refuses_write : {A : Type 0} (hierarchy_file trace_file : List ℕ) (wanted : RunTask) (written : Result A RunError)
-    → IfErr written (λ error. error ≡ run.Tool tool.Write) → IfErr written (RefusesRun hierarchy_file trace_file wanted)
-refuses_write hierarchy_file trace_file wanted (Ok a) fault = tt
-refuses_write hierarchy_file trace_file wanted (Err e) fault =
+pub refuses_write : (hierarchy_file trace_file : List ℕ) (wanted : RunTask) (error : RunError) → error ≡ run.Tool tool.Write
+    → RefusesRun hierarchy_file trace_file wanted error
+refuses_write hierarchy_file trace_file wanted error fault =
     let write : Refuses hierarchy_file trace_file tool.Write = inr (inr refl) in
     subst (RefusesRun hierarchy_file trace_file wanted) (sym fault) write
+
+-- what follows of a value that may be there
+pub some_weaker : {A : Type 0} (o : Option A) (P Q : A → Type 0) → ((a : A) → P a → Q a) → IfSome o P → IfSome o Q
+some_weaker None P Q more holds = tt
+some_weaker (Some a) P Q more holds = more a holds
+
+-- what the messages of accepted files hold
+pub assigned_under : (hierarchy_file trace_file : List ℕ) (layout : Hierarchy) (assigned : List Held) (trace : Arrivals)
+    → Accepts hierarchy_file trace_file (instance_under layout assigned trace) → hierarchy_of hierarchy_file ≡ Ok layout
+    → IsAssignment layout trace.messages assigned
+assigned_under hierarchy_file trace_file layout assigned trace accepts is =
+    let read = accepts.is_layout in
+    let same : accepts.layout ≡ layout = cc in
+    subst (λ (l : Hierarchy). IsAssignment l trace.messages assigned) same accepts.assignment

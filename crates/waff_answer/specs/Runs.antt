@@ -1,5 +1,5 @@
 -- How the program ends where it runs messages: the text of a run on the output, or a line that tells why there is none.
-use Rattle.std.specs.Prelude.{◌≡◌, ℕ, ◌+◌, ◌⊎◌, false, if◌then◌else◌, is_some, List, [], ◌∷◌, ◌++◌, Option, Some, None, Ok, codes, decimal, length, string_bytes}
+use Rattle.std.specs.Prelude.{◌≡◌, ℕ, ◌+◌, ◌⊎◌, false, true, if◌then◌else◌, is_some, List, [], ◌∷◌, ◌++◌, Option, Some, None, Ok, codes, decimal, length, string_bytes}
 use Rattle.std.specs.Io.KnownBytes.{Appends, Keeps}
 use Rattle.waff_io.specs.Writing.{AppendsPart}
 use Rattle.waff_assign.specs.Instance.{Instance}
@@ -12,7 +12,7 @@ use Rattle.waff_model.specs.Messages.{Arrivals}
 use Rattle.waff_run.specs.Faults.{IsOfRun, Told}
 use Rattle.waff_run.specs.Opening.{job_of}
 use Rattle.waff_run.specs.Places.{placing_of}
-use Rattle.waff_run.specs.Texts.{TellRun}
+use Rattle.waff_run.specs.Texts.{TellPart, TellRun}
 use Rattle.waff_run.specs.declared.fault.RunError.{RunError}
 use Rattle.waff_run.specs.declared.fault.RunError.TheVariants as run
 use Rattle.waff_cli.specs.declared.task.RunTask.{RunTask}
@@ -30,6 +30,14 @@ pub record IsRunText (hierarchy_file trace_file : List ℕ) (k tick : ℕ) (text
   pub accepts : Accepts hierarchy_file trace_file instance
   pub measured : List ℕ
   pub texts : TellRun hierarchy_file instance k tick measured text drift
+
+-- the text tells what is left of such a run that broke off
+pub record IsPartText (hierarchy_file trace_file : List ℕ) (k tick : ℕ) (text : List ℕ)
+    (drift : Option ℕ) : Type 0 where
+  pub instance : Instance
+  pub accepts : Accepts hierarchy_file trace_file instance
+  pub measured : List ℕ
+  pub texts : TellPart hierarchy_file instance k tick measured text drift
 
 -- the line that tells that what is told is longer than the run was
 abbrev pub drift_message : Option ℕ → List ℕ
@@ -91,22 +99,42 @@ pub record IsRun (hierarchy_file trace_file : List ℕ) (k tick : ℕ) (quiet : 
   pub told : Advises quiet err new_err failed (drift_message drift)
   pub status_is : status ≡ 0
 
--- the output has nothing, or where it failed a part of the text of a run, from its front
-abbrev pub HasPart : List ℕ → List ℕ → ℕ → ℕ → RunError → Option (List ℕ) → Option (List ℕ) → Type 0
-HasPart hierarchy_file trace_file k tick error out new_out =
-    Keeps out new_out
-    ⊎ ((error ≡ run.Tool tool.Write)
-    × (text : List ℕ) × (drift : Option ℕ)
-    × IsRunText hierarchy_file trace_file k tick text drift × AppendsPart out new_out text)
+-- what is left of a run that broke off for this error was written to the output, and nothing of it failed
+pub record IsLeftOnOutput (hierarchy_file trace_file : List ℕ) (wanted : RunTask) (error : RunError) (drift : Option ℕ)
+    (out new_out : Option (List ℕ)) : Type 0 where
+  pub wanted_so : wanted.words.partial ≡ true
+  pub text : List ℕ
+  pub is_text : IsPartText hierarchy_file trace_file wanted.words.workers wanted.words.tick text drift
+  pub written : Appends out new_out text
 
--- the error stream has the line of an error that tells why there is no run, unless it failed, and the status is that of the
--- error
+-- the output failed, and has a part of the text of a run, from its front; or of what is left of one, where that is wanted
+abbrev pub HasPart : List ℕ → List ℕ → RunTask → RunError → Option (List ℕ) → Option (List ℕ) → Type 0
+HasPart hierarchy_file trace_file wanted error out new_out =
+    (text : List ℕ) × (drift : Option ℕ)
+    × (((error ≡ run.Tool tool.Write)
+    × IsRunText hierarchy_file trace_file wanted.words.workers wanted.words.tick text drift)
+    ⊎ ((wanted.words.partial ≡ true)
+    × IsPartText hierarchy_file trace_file wanted.words.workers wanted.words.tick text drift))
+    × AppendsPart out new_out text
+
+-- where there is no run to its end, the output has what is left of one, where that is wanted, and its drift is told; or no drift
+-- is told, and the output has nothing, or failed
+abbrev pub LeavesPart : List ℕ → List ℕ → RunTask → RunError → Option ℕ → Option (List ℕ) → Option (List ℕ)
+    → Type 0
+LeavesPart hierarchy_file trace_file wanted error drift out new_out =
+    IsLeftOnOutput hierarchy_file trace_file wanted error drift out new_out
+    ⊎ ((drift ≡ None)
+    × (Keeps out new_out ⊎ HasPart hierarchy_file trace_file wanted error out new_out))
+
+-- the error stream has the line of an error that tells why there is no run to its end, behind the drift of what is left of
+-- one, unless it failed, and the status is that of the error
 pub record IsNoRun (hierarchy_file trace_file : List ℕ) (wanted : RunTask)
     (out new_out err new_err : Option (List ℕ)) (failed : Type 0) (status : ℕ) : Type 0 where
   pub error : RunError
+  pub drift : Option ℕ
   pub refused : RefusesRun hierarchy_file trace_file wanted error
-  pub part : HasPart hierarchy_file trace_file wanted.words.workers wanted.words.tick error out new_out
-  pub told : Advises (wanted.loud ≡ false) err new_err failed (run_message error)
+  pub part : LeavesPart hierarchy_file trace_file wanted error drift out new_out
+  pub told : Advises (wanted.loud ≡ false) err new_err failed (drift_message drift ++ run_message error)
   pub status_is : status ≡ run_status error
 
 -- how the program ends where it runs the messages of these files as it is wanted

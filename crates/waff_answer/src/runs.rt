@@ -1,15 +1,16 @@
 //! The messages run on files, and what is told of that.
-ghost use Rattle.std.specs.Prelude.{◌≡◌, ◌≤◌, ℕ, ◌⊎◌, Some, ◌++◌, [], false, List, IfErr, IfOk, OnOk, string_bytes};
+ghost use Rattle.std.specs.Prelude.{◌≡◌, ◌≤◌, ℕ, ◌⊎◌, None, Some, ◌++◌, [], false, true, List, IfErr, IfOk, IfSome, OnOk, string_bytes};
 ghost use Rattle.std.specs.Io.KnownBytes.{Appends, Keeps};
+ghost use Rattle.waff_assign.specs.Lowest.{IsAssignment};
 ghost use Rattle.waff_plan.specs.Bound.{IsWorkers};
 ghost use Rattle.waff_io.specs.Writing.{AppendsPart, Tells, WritesOrFails};
 ghost use Rattle.waff_inputs.specs.Inputs.{instance_under};
 ghost use Rattle.waff_inputs.specs.declared.fault.ToolError.TheVariants as tool;
 ghost use Rattle.waff_run.specs.Faults.{IsOfRunning};
 ghost use Rattle.waff_run.specs.Opening.{job_of, told_of};
-ghost use Rattle.waff_run.specs.Texts.{TellRun};
+ghost use Rattle.waff_run.specs.Texts.{TellPart, TellRun};
 ghost use Rattle.waff_answer.specs.Answers.{bytes_of, first, second};
-ghost use Rattle.waff_answer.specs.Runs.{EndsRun, HasPart, IsOfTask, IsRunText, RefusesRun, drift_message};
+ghost use Rattle.waff_answer.specs.Runs.{EndsRun, IsOfTask, IsPartText, IsRunText, LeavesPart, RefusesRun, drift_message};
 ghost use Rattle.waff_answer.specs.Runs.{run_message, run_status, told_by};
 ghost use Rattle.waff_cli.specs.Advice.{advice_text};
 ghost use Rattle.waff_run.specs.declared.fault.RunError.TheVariants as run;
@@ -27,8 +28,8 @@ use waff_inputs::{Accepted, ToolError, accept_by_threads, fault_status, write_fa
 use waff_io::{ErrorStream, WriteFault, write_pieces};
 use waff_record::Recorded;
 use waff_run::{
-    Folder, Opened, Opens, Pace, Part, Places, RanOn, RunError, Settings, Site, planned_length,
-    run_on, silent_hands,
+    Broken, Folder, Opened, Opens, Pace, Part, Places, RanOn, RunError, Settings, Site,
+    planned_length, run_on, silent_hands,
 };
 
 /// Runs the messages, writes the measured trace where it is wanted, and then the plan of what happened; or says
@@ -49,14 +50,21 @@ pub fn answer_run<
             drop(advice);
             0
         }
-        Err(error) => {
+        Err(Fallen { error, drift }) => {
             let advice = advice_on_run(alloc, task, fault_of(&error));
-            let status = tell(alloc, &error, advice.as_str(), err);
+            let status = tell(alloc, drift, &error, advice.as_str(), err);
             drop(advice);
             drop(error);
             status
         }
     }
+}
+
+/// Why a run broke off, and the drift of what was told of it all the same.
+#[derive(Drop)]
+struct Fallen {
+    error: RunError,
+    drift: Option<u128>,
 }
 
 /// How a run went: what is told on the error stream.
@@ -105,15 +113,42 @@ fn fault_of(error: &RunError) -> RunFault<'_> {
     }
 }
 
-/// Tells why there is no run, with what helps, and gives the exit status. Where the error stream fails, the
-/// status has to do.
-fn tell<E: ErrorStream>(alloc: Global, error: &RunError, advice: &str, err: &mut E) -> u8
+/// Tells of the drift of what was told all the same, and why there is no more, with what helps, and gives the exit status.
+/// Where the error stream fails, the status has to do.
+fn tell<E: ErrorStream>(
+    alloc: Global,
+    drift: Option<u128>,
+    error: &RunError,
+    advice: &str,
+    err: &mut E,
+) -> u8
     ensures told { Tells (E.holds err.old) (E.holds err.new) (E.failed err.new)
-        (run_message error.now ++ advice.now) }
+        ((drift_message drift ++ run_message error.now) ++ advice.now) }
     ensures status { result ≡ run_status error.now }
 {
-    tell_line(alloc, error, advice, err);
+    tell_lines(alloc, drift, error, advice, err);
     status_of(error)
+}
+
+/// Writes the line of a drift, where there is one, that of an error, and then what helps.
+fn tell_lines<E: ErrorStream>(
+    alloc: Global,
+    drift: Option<u128>,
+    error: &RunError,
+    advice: &str,
+    err: &mut E,
+)
+    ensures { Tells (E.holds err.old) (E.holds err.new) (E.failed err.new)
+        ((drift_message drift ++ run_message error.now) ++ advice.now) }
+{
+    let Some(percent) = drift else {
+        tell_line(alloc, error, advice, err);
+        return;
+    };
+    match write_drift(alloc, percent, err) {
+        Ok(()) => tell_line(alloc, error, advice, err),
+        Err(_) => {}
+    }
 }
 
 /// Writes the line of an error, and then what helps.
@@ -180,39 +215,102 @@ fn write_run<R: Threads + Wait + Clock + Files + Opens + Eprint + Sync, W: Write
     alloc: Global,
     task: &RunTask,
     out: &mut W,
-) -> Result<Went, RunError>
+) -> Result<Went, Fallen>
     ensures quiet { IfOk result (λ went. task.now.loud ≡ false → advice_text went.advice ≡ []) }
     ensures written { IfOk result (λ went. (text : List ℕ)
         × IsRunText (first (bytes_of task.now.files.items)) (second (bytes_of task.now.files.items))
         task.now.words.workers task.now.words.tick text went.drift
         × Appends (W.contents out.old) (W.contents out.new) text) }
-    ensures refused { IfErr result (RefusesRun (first (bytes_of task.now.files.items))
-        (second (bytes_of task.now.files.items)) task.now) }
-    ensures part { IfErr result (λ error. HasPart (first (bytes_of task.now.files.items))
-        (second (bytes_of task.now.files.items)) task.now.words.workers task.now.words.tick error
+    ensures refused { IfErr result (λ fallen. RefusesRun (first (bytes_of task.now.files.items))
+        (second (bytes_of task.now.files.items)) task.now fallen.error) }
+    ensures part { IfErr result (λ fallen. LeavesPart (first (bytes_of task.now.files.items))
+        (second (bytes_of task.now.files.items)) task.now fallen.error fallen.drift
         (W.contents out.old) (W.contents out.new)) }
 {
     match ran(rt, alloc, task) {
         Ok(RanOnFiles { told, part }) => {
-            let written = write_texts(rt, alloc, task, &told, part, out);
+            let written = write_whole(rt, alloc, task, &told, part, out);
             drop(told);
             written
         }
-        Err(error) => Err(error),
+        Err(BrokeOff { error, left }) => match left {
+            None => Err(Fallen { error, drift: None }),
+            Some(left) => Err(write_left(rt, task, error, left, out)),
+        },
     }
 }
 
-/// Writes both texts of a run.
-fn write_texts<R: Threads + Files + Sync, W: Write>(
+/// Writes both texts of a run that came to its end.
+fn write_whole<R: Threads + Files + Sync, W: Write>(
     rt: &R,
     alloc: Global,
     task: &RunTask,
     told: &Recorded,
     part: Option<Part>,
     out: &mut W,
-) -> Result<Went, RunError>
+) -> Result<Went, Fallen>
+    requires { IsRunText (first (bytes_of task.now.files.items)) (second (bytes_of task.now.files.items))
+        task.now.words.workers task.now.words.tick (string_bytes told.now.text) told.now.drift }
     ensures quiet { IfOk result (λ went. task.now.loud ≡ false → advice_text went.advice ≡ []) }
-    ensures drift { IfOk result (λ went. went.drift ≡ told.now.drift) }
+    ensures written { IfOk result (λ went. (text : List ℕ)
+        × IsRunText (first (bytes_of task.now.files.items)) (second (bytes_of task.now.files.items))
+        task.now.words.workers task.now.words.tick text went.drift
+        × Appends (W.contents out.old) (W.contents out.new) text) }
+    ensures refused { IfErr result (λ fallen. RefusesRun (first (bytes_of task.now.files.items))
+        (second (bytes_of task.now.files.items)) task.now fallen.error) }
+    ensures part { IfErr result (λ fallen. LeavesPart (first (bytes_of task.now.files.items))
+        (second (bytes_of task.now.files.items)) task.now fallen.error fallen.drift
+        (W.contents out.old) (W.contents out.new)) }
+{
+    match write_texts(rt, told, part, out) {
+        Ok(()) => Ok(Went {
+            drift: told.drift,
+            advice: how_it_went(rt, alloc, task, told),
+        }),
+        Err(error) => Err(Fallen { error, drift: None }),
+    }
+}
+
+/// Writes both texts of what is left of a run that broke off for this error. Where they cannot be written, the error is told
+/// alone.
+fn write_left<R: Files, W: Write>(
+    rt: &R,
+    task: &RunTask,
+    error: RunError,
+    left: RanOnFiles,
+    out: &mut W,
+) -> Fallen
+    requires wanted { task.now.words.partial ≡ true }
+    requires told { IsPartText (first (bytes_of task.now.files.items)) (second (bytes_of task.now.files.items))
+        task.now.words.workers task.now.words.tick
+        (string_bytes left.told.text) left.told.drift }
+    ensures error { result.error ≡ error }
+    ensures part { LeavesPart (first (bytes_of task.now.files.items))
+        (second (bytes_of task.now.files.items)) task.now result.error result.drift
+        (W.contents out.old) (W.contents out.new) }
+{
+    let RanOnFiles { told, part } = left;
+    match write_texts(rt, &told, part, out) {
+        Ok(()) => {
+            let drift = told.drift;
+            drop(told);
+            Fallen { error, drift }
+        }
+        Err(fault) => {
+            drop(fault);
+            drop(told);
+            Fallen { error, drift: None }
+        }
+    }
+}
+
+/// Writes both texts of a run.
+fn write_texts<R: Files, W: Write>(
+    rt: &R,
+    told: &Recorded,
+    part: Option<Part>,
+    out: &mut W,
+) -> Result<(), RunError>
     ensures written { OnOk result
         (Appends (W.contents out.old) (W.contents out.new) (string_bytes told.now.text)) }
     ensures fault { IfErr result (λ error. error ≡ run.Tool tool.Write) }
@@ -224,10 +322,7 @@ fn write_texts<R: Threads + Files + Sync, W: Write>(
         Err(error) => return Err(error),
     }
     match write_text(out, told.text.as_bytes()) {
-        Ok(()) => Ok(Went {
-            drift: told.drift,
-            advice: how_it_went(rt, alloc, task, told),
-        }),
+        Ok(()) => Ok(()),
         Err(error) => Err(RunError::Tool(error)),
     }
 }
@@ -239,17 +334,27 @@ struct RanOnFiles {
     part: Option<Part>,
 }
 
+/// Why there is no run to its end, and what is left of one that broke off, where it is told.
+#[derive(Drop)]
+struct BrokeOff {
+    error: RunError,
+    left: Option<RanOnFiles>,
+}
+
 /// Accepts the files, and runs the messages.
 fn ran<R: Threads + Wait + Clock + Files + Opens + Eprint + Sync>(
     rt: &R,
     alloc: Global,
     task: &RunTask,
-) -> Result<RanOnFiles, RunError>
+) -> Result<RanOnFiles, BrokeOff>
     ensures told { IfOk result (λ ran. IsRunText (first (bytes_of task.now.files.items))
         (second (bytes_of task.now.files.items)) task.now.words.workers task.now.words.tick
         (string_bytes ran.told.text) ran.told.drift) }
-    ensures refused { IfErr result (RefusesRun (first (bytes_of task.now.files.items))
-        (second (bytes_of task.now.files.items)) task.now) }
+    ensures refused { IfErr result (λ broke. RefusesRun (first (bytes_of task.now.files.items))
+        (second (bytes_of task.now.files.items)) task.now broke.error) }
+    ensures left { IfErr result (λ broke. IfSome broke.left (λ left. IsPartText (first (bytes_of task.now.files.items))
+        (second (bytes_of task.now.files.items)) task.now.words.workers task.now.words.tick (string_bytes left.told.text) left.told.drift)) }
+    ensures wanted { IfErr result (λ broke. IfSome broke.left (λ _. task.now.words.partial ≡ true)) }
 {
     let files = task.files.as_slice();
     let (hierarchy, trace) = (file(files, 0), file(files, 1));
@@ -259,8 +364,16 @@ fn ran<R: Threads + Wait + Clock + Files + Opens + Eprint + Sync>(
             drop(accepted);
             ran
         }
-        Err(error) => Err(RunError::Tool(error)),
+        Err(error) => Err(broke_of(RunError::Tool(error))),
     }
+}
+
+/// Nothing is left of a run that broke off.
+fn broke_of(error: RunError) -> BrokeOff
+    ensures error { result.error ≡ error }
+    ensures none { result.left ≡ None }
+{
+    BrokeOff { error, left: None }
 }
 
 /// Opens the files of cells, and runs the messages on them.
@@ -272,20 +385,29 @@ fn ran_on_files<R: Threads + Wait + Clock + Files + Opens + Eprint + Sync>(
     accepted: &Accepted,
     hierarchy: &[u8],
     trace: &[u8],
-) -> Result<RanOnFiles, RunError>
+) -> Result<RanOnFiles, BrokeOff>
+    requires assigned { IsAssignment accepted.now.layout accepted.now.trace.messages accepted.now.assigned }
     ensures told { IfOk result (λ ran. TellRun hierarchy.now
         (instance_under accepted.now.layout accepted.now.assigned accepted.now.trace)
         task.now.words.workers task.now.words.tick (string_bytes ran.told.measured)
         (string_bytes ran.told.text) ran.told.drift) }
-    ensures refused { IfErr result (IsOfTask accepted.now.layout accepted.now.trace task.now) }
+    ensures refused { IfErr result (λ broke. IsOfTask accepted.now.layout accepted.now.trace task.now broke.error) }
+    ensures left { IfErr result (λ broke. IfSome broke.left (λ left. TellPart hierarchy.now
+        (instance_under accepted.now.layout accepted.now.assigned accepted.now.trace)
+        task.now.words.workers task.now.words.tick (string_bytes left.told.measured)
+        (string_bytes left.told.text) left.told.drift)) }
+    ensures wanted { IfErr result (λ broke. IfSome broke.left (λ _. task.now.words.partial ≡ true)) }
 {
     let words = &task.words;
-    let places = Places::of(alloc, &accepted.layout, words.cell)?;
+    let places = match Places::of(alloc, &accepted.layout, words.cell) {
+        Ok(places) => places,
+        Err(_) => return Err(broke_of(RunError::Tool(ToolError::Memory))),
+    };
     let site = site_of(task);
     let opened = rt.open_run(alloc, &site, &accepted.layout, &accepted.trace, &places);
     let Opened { store, part, found } = match opened {
         Ok(opened) => opened,
-        Err(error) => return Err(error),
+        Err(error) => return Err(broke_of(error)),
     };
     drop(found);
     let settings = settings_of(task);
@@ -295,12 +417,18 @@ fn ran_on_files<R: Threads + Wait + Clock + Files + Opens + Eprint + Sync>(
     drop(store);
     match ran {
         Ok(told) => Ok(RanOnFiles { told, part }),
-        Err(error) => {
-            if let Some(part) = part {
-                part.remove(rt);
+        Err(Broken { error, told }) => match told {
+            Some(told) => Err(BrokeOff {
+                error,
+                left: Some(RanOnFiles { told, part }),
+            }),
+            None => {
+                if let Some(part) = part {
+                    part.remove(rt);
+                }
+                Err(broke_of(error))
             }
-            Err(error)
-        }
+        },
     }
 }
 
@@ -314,17 +442,29 @@ fn ran_on_store<R: Threads + Wait + Clock + Eprint + Sync>(
     store: &Folder,
     places: &Places,
     settings: &Settings<'_>,
-) -> Result<Recorded, RunError>
+) -> Result<Recorded, Broken>
     requires workers { IsWorkers settings.now.pace.workers }
     requires tick { 1 ≤ settings.now.pace.tick }
+    requires assigned { IsAssignment accepted.now.layout accepted.now.trace.messages accepted.now.assigned }
     ensures told { IfOk result (λ told. TellRun hierarchy.now
         (instance_under accepted.now.layout accepted.now.assigned accepted.now.trace)
         settings.now.pace.workers settings.now.pace.tick (string_bytes told.measured)
         (string_bytes told.text) told.drift) }
-    ensures refused { IfErr result (IsOfRunning
-        (job_of accepted.now.layout places.now accepted.now.trace) settings.now.pace.workers) }
+    ensures refused { IfErr result (λ broken. IsOfRunning
+        (job_of accepted.now.layout places.now accepted.now.trace) settings.now.pace.workers broken.error) }
+    ensures left { IfErr result (λ broken. IfSome broken.told (λ told. TellPart hierarchy.now
+        (instance_under accepted.now.layout accepted.now.assigned accepted.now.trace)
+        settings.now.pace.workers settings.now.pace.tick
+        (string_bytes told.measured) (string_bytes told.text) told.drift)) }
+    ensures wanted { IfErr result (λ broken. IfSome broken.told (λ _. settings.now.partial ≡ true)) }
 {
-    let hands = silent_hands(alloc, accepted.trace.len() as usize)?;
+    let hands = match silent_hands(alloc, accepted.trace.len() as usize) {
+        Ok(hands) => hands,
+        Err(_) => return Err(Broken {
+            error: RunError::Tool(ToolError::Memory),
+            told: None,
+        }),
+    };
     let ran = run_on(
         rt,
         alloc,
@@ -342,7 +482,7 @@ fn ran_on_store<R: Threads + Wait + Clock + Eprint + Sync>(
             drop(hands);
             Ok(told)
         }
-        Err(error) => Err(error),
+        Err(broken) => Err(broken),
     }
 }
 
@@ -364,6 +504,7 @@ fn settings_of<'a>(task: &'a RunTask) -> Settings<'a>
     ensures within { IsWorkers result.pace.workers }
     ensures tick { result.pace.tick ≡ task.now.words.tick }
     ensures lasting { 1 ≤ result.pace.tick }
+    ensures partial { result.partial ≡ task.now.words.partial }
 {
     let words = &task.words;
     Settings {
@@ -375,6 +516,7 @@ fn settings_of<'a>(task: &'a RunTask) -> Settings<'a>
         fill: words.fill,
         sync_writes: words.sync_writes,
         syncs: words.syncs.as_slice(),
+        partial: words.partial,
     }
 }
 

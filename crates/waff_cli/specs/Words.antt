@@ -178,6 +178,7 @@ pub record IsRunGiven (rows : List Row) (words : RunWords) : Type 0 where
   pub fill : words.fill ≡ is_set rows (codes "fill")
   pub sync_writes : words.sync_writes ≡ is_set rows (codes "sync-writes")
   pub syncs : map string_bytes words.syncs.items ≡ unwrap_or (all_of (codes "sync") rows) []
+  pub partial : words.partial ≡ is_set rows (codes "partial")
 
 -- messages are to be run so, by what was found of all words
 abbrev pub IsRunBy : Option (List ℕ × List Row) → RunWords → Type 0

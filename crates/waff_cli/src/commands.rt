@@ -78,6 +78,8 @@ pub enum RunWord {
     SyncNames,
     /// `--trace`.
     Trace,
+    /// `--partial`.
+    Partial,
 }
 
 /// The words for files of all commands, in the order in which each command has its own.

@@ -151,6 +151,11 @@ fn run_arg<'a>(alloc: Global, word: RunWord) -> Arg<'a> {
         RunWord::Trace => {
             option(alloc, "trace", "Where the trace as measured is written").value_name("FILE")
         }
+        RunWord::Partial => flag(
+            alloc,
+            "partial",
+            "Tells what is left of a run that breaks off",
+        ),
     }
 }
 

@@ -34,6 +34,8 @@ pub struct RunWords {
     pub sync_writes: bool,
     /// The names of messages at whose end the files of their cells are synced.
     pub syncs: Vec<String>,
+    /// Whether the messages that had ended are told of a run that breaks off.
+    pub partial: bool,
 }
 
 /// The bytes of a cell where they are not given.
@@ -57,6 +59,7 @@ pub fn run_words(
     let over = flag_in(found, "over");
     let fill = flag_in(found, "fill");
     let sync_writes = flag_in(found, "sync-writes");
+    let partial = flag_in(found, "partial");
     Ok(RunWords {
         folder: folder_of(alloc, found)?,
         trace: trace_of(alloc, found)?,
@@ -67,6 +70,7 @@ pub fn run_words(
         fill,
         sync_writes,
         syncs: names_of(alloc, found)?,
+        partial,
     })
 }
 

@@ -593,13 +593,13 @@ const RUN: CommandWords = CommandWords {
         Word::Run(RunWord::SyncWrites),
         Word::Run(RunWord::SyncNames),
         Word::Run(RunWord::Trace),
+        Word::Run(RunWord::Partial),
     ],
     help: with_statuses!(
         "\
 Files DIR/SPACE.N are written over, whatever they hold: SPACE is a space, N a
-place of the list of its map, from 0. The cells of one file have one owner.
-Files that no run of waff has made want --over: a run leaves a mark, the file
-DIR/.waff.
+place of the list of its map, from 0. Files that no run of waff has made want
+--over: a run leaves a mark, the file DIR/.waff.
 
 Example: waff run hier.toml trace.csv disk --workers 4 --trace measured.csv
 
@@ -612,7 +612,13 @@ it is FILE.part until all is written.
 
 Reads of what was never written touch no device: see --fill. What lies in the
 page cache is read from there. A message that takes more than 1000000 ticks ends
-the run with status 3: then the trace needs a larger tick.",
+the run with status 3: then the trace needs a larger tick.
+
+Of a run that breaks off, by such a message or by a file that fails, nothing is
+told, and no FILE is made. With --partial the messages that had ended are told,
+and FILE is the trace cut down to them; then the line of the fault follows, and
+its status. A signal ends a run at once, and nothing is told: where files have a
+limit of size, trap '' XFSZ in the shell makes a fault of its signal.",
         "Exit status:\n  0  done"
     ),
 };

@@ -1,14 +1,23 @@
 mod Alike
 mod Counted
+mod Cutting
+mod CutBelow
+mod CutDown
 mod Drifting
+pub mod Ended
+mod Holds
 mod Kept
+mod LeftOf
+mod LeftRuns
 mod Measured
 mod Pass
+mod Planned
 mod Placing
 mod Ran
 mod Rows
 mod Sooner
 mod Steps
+mod Stopped
 mod Telling
 mod Unique
 mod Walking

@@ -18,7 +18,7 @@ use Rattle.waff_line.specs.declared.turn.Turn.{Turn}
 use Rattle.waff_record.specs.Laws.{measured_by, run_order}
 use Rattle.waff_record.specs.Turns.{no_turn, turn_at}
 
-shown_at : (turns : List Turn) (k : ℕ) → get_or (map shown turns) k machine.no_turn ≡ shown (get_or turns k no_turn)
+pub shown_at : (turns : List Turn) (k : ℕ) → get_or (map shown turns) k machine.no_turn ≡ shown (get_or turns k no_turn)
 shown_at [] k = refl
 shown_at (turn ∷ turns) zero = refl
 shown_at (turn ∷ turns) (suc k) = shown_at turns k

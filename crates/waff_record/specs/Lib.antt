@@ -5,3 +5,4 @@ pub mod Begun
 pub mod Drift
 pub mod Ran
 pub mod Runs
+pub mod Left

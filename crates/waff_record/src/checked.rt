@@ -42,7 +42,7 @@ pub fn accept_measured<R: Threads + Sync>(
 }
 
 /// A measured trace that was not accepted is a run that is not: else memory was refused.
-fn refused(error: ToolError) -> RecordError {
+pub(crate) fn refused(error: ToolError) -> RecordError {
     match error {
         ToolError::Memory => RecordError::Memory,
         _ => RecordError::Refused,
@@ -243,14 +243,14 @@ fn is_same_but_cost(message: &Message, other: &Message) -> bool
 }
 
 /// Whether two lists of messages that are awaited are the same.
-fn are_same_awaited(after: &[Await], other: &[Await]) -> bool
+pub(crate) fn are_same_awaited(after: &[Await], other: &[Await]) -> bool
     ensures { OnTrue result (after.now ≡ other.now) }
 {
     after == other
 }
 
 /// Whether two lists of operations are the same.
-fn are_same(ops: &Ops, other: &Ops) -> bool
+pub(crate) fn are_same(ops: &Ops, other: &Ops) -> bool
     ensures { OnTrue result (ops.now ≡ other.now) }
 {
     if ops.len() != other.len() {

@@ -19,7 +19,7 @@ use waff_plan::{Latest, Plan, Started, Table, by_tick};
 
 /// The greatest tick at which a message may be told to finish: the plan of the costs that are told has no later one by
 /// any number of workers.
-const MAX_RUN: u64 = MAX_TICK / MAX_WORKERS as u64;
+pub(crate) const MAX_RUN: u64 = MAX_TICK / MAX_WORKERS as u64;
 
 /// What is told of a message, in ticks.
 #[derive(Clone, Copy)]

@@ -26,6 +26,27 @@ pub fn measured_text(
     trace: &[u8],
     plan: &Plan,
 ) -> Result<Option<String>, AllocError> {
+    text_again(alloc, trace, plan, None)
+}
+
+/// The trace of these bytes cut down to the messages with these numbers, which the lists of messages that are awaited then
+/// go by. The plan is any of its messages. None where the bytes are no trace of as many.
+pub(crate) fn cut_text(
+    alloc: Global,
+    trace: &[u8],
+    plan: &Plan,
+    kept: &[u32],
+) -> Result<Option<String>, AllocError> {
+    text_again(alloc, trace, plan, Some(kept))
+}
+
+/// The one or the other.
+fn text_again(
+    alloc: Global,
+    trace: &[u8],
+    plan: &Plan,
+    kept: Option<&[u32]>,
+) -> Result<Option<String>, AllocError> {
     let mut text = String::with_capacity(alloc, trace.len())?;
     let mut rows = text_rows(alloc, trace);
     let mut row = StringRecord::new(alloc);
@@ -36,10 +57,60 @@ pub fn measured_text(
             // The bytes were read before as a trace, so that nothing but memory lacks.
             Err(_) => return Err(AllocError),
         }
-        let (cost, list) = told_fields(plan, number);
-        push_record(&mut text, &row, cost, list)?;
+        match kept {
+            Some(kept) => push_kept(alloc, &mut text, &row, plan, number, kept)?,
+            None => {
+                let (cost, list) = told_fields(plan, number);
+                push_record(&mut text, &row, cost, list)?;
+            }
+        }
     }
     Ok(Some(text))
+}
+
+/// Appends the record of message `number`, where it is one of those that are kept, with its list by their numbers; that of
+/// 0, the header, as it is.
+fn push_kept(
+    alloc: Global,
+    text: &mut String,
+    row: &StringRecord,
+    plan: &Plan,
+    number: u32,
+    kept: &[u32],
+) -> Result<(), AllocError>
+    requires number { number ≤ length plan.now.timings }
+{
+    let (_, list) = told_fields(plan, number);
+    match list {
+        Some(list) if kept.binary_search(&number).is_ok() => {
+            let list = list_among(alloc, kept, list)?;
+            let pushed = push_record(text, row, None, Some(list.as_slice()));
+            drop(list);
+            pushed
+        }
+        None if number == 0 || kept.binary_search(&number).is_ok() => {
+            push_record(text, row, None, None)
+        }
+        _ => Ok(()),
+    }
+}
+
+/// Messages that are awaited, by their numbers among those that are kept; by 0 where they are not among them.
+fn list_among(alloc: Global, kept: &[u32], list: &[Await]) -> Result<Vec<Await>, AllocError> {
+    list.iter()
+        .map(|one| Await {
+            message: place_among(kept, one.message),
+            gap: one.gap,
+        })
+        .collect(alloc)
+}
+
+/// The number of this message among those that are kept, 0 where it is not.
+fn place_among(kept: &[u32], message: u32) -> u32 {
+    match kept.binary_search(&message) {
+        Ok(at) => u32::try_from(at.saturating_add(1)).unwrap_or(0),
+        Err(_) => 0,
+    }
 }
 
 /// What the record of message `number` tells anew: its cost, and its list where the trace has lists. Nothing for 0, the

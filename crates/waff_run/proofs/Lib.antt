@@ -1,4 +1,3 @@
-mod Planned
 mod Reached
 mod Rows
 mod Lying

@@ -5,8 +5,9 @@ use Rattle.std.specs.Str.{bytes_eq}
 use Rattle.waff_model.specs.Messages.{Arrivals}
 use Rattle.waff_model.specs.declared.message.Message.{Message}
 use Rattle.waff_assign.specs.Instance.{Instance}
-use Rattle.waff_line.specs.Turns.{AreRunTurns, course_by}
+use Rattle.waff_line.specs.Turns.{AreReached, AreRunTurns, course_by}
 use Rattle.waff_line.specs.declared.turn.Turn.{Turn}
+use Rattle.waff_record.specs.Left.{TellLeft}
 use Rattle.waff_record.specs.Runs.{AreRunTexts}
 use Rattle.waff_run.specs.Hands.{Asking, asking_of}
 use Rattle.waff_run.specs.Places.{Placing}
@@ -21,6 +22,14 @@ pub record TellRun (hierarchy_file : List ℕ) (instance : Instance) (workers ti
   pub turns : List Turn
   pub ran : AreRunTurns (course_by instance workers tick) turns
   pub texts : AreRunTexts hierarchy_file instance workers tick turns measured_file text drift
+
+-- texts tell what is left of a run of an instance by so many workers that broke off: events of the machine led to turns, and
+-- of these the messages are told that had ended
+pub record TellPart (hierarchy_file : List ℕ) (instance : Instance) (workers tick : ℕ)
+    (measured_file text : List ℕ) (drift : Option ℕ) : Type 0 where
+  pub turns : List Turn
+  pub reached : AreReached (course_by instance workers tick) turns
+  pub left : TellLeft hierarchy_file instance workers tick turns measured_file text drift
 
 -- the message has one of these names
 abbrev pub is_named : {A : Type 0} → List (String A) → Message → Bool

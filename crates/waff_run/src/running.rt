@@ -1,8 +1,9 @@
 //! A run, from the accepted files to the two texts.
 
-ghost use Rattle.std.specs.Prelude.{◌≡◌, ◌≤◌, IfErr, IfOk, IfSome, OnOk, length, map, option_map, string_bytes};
+ghost use Rattle.std.specs.Prelude.{◌≡◌, ◌≤◌, IfErr, IfOk, IfSome, None, OnOk, true, length, map, option_map, string_bytes};
+ghost use Rattle.waff_assign.specs.Lowest.{IsAssignment};
 ghost use Rattle.waff_inputs.specs.Inputs.{instance_under};
-ghost use Rattle.waff_line.specs.Turns.{AreRunTurns, course_by};
+ghost use Rattle.waff_line.specs.Turns.{AreReached, AreRunTurns, course_by};
 ghost use Rattle.waff_plan.specs.Bound.{IsWorkers};
 ghost use Rattle.waff_run.specs.Asked.{AsksFilling, GoesOn};
 ghost use Rattle.waff_run.specs.Faults.{IsOfRunning};
@@ -10,7 +11,7 @@ ghost use Rattle.waff_run.specs.Files.{NamesFile};
 ghost use Rattle.waff_run.specs.Hands.{AreAsked, AreFresh};
 ghost use Rattle.waff_run.specs.Named.{cells_named};
 ghost use Rattle.waff_run.specs.Opening.{job_of};
-ghost use Rattle.waff_run.specs.Texts.{TellRun, asking_by, is_named, syncs_by};
+ghost use Rattle.waff_run.specs.Texts.{TellPart, TellRun, asking_by, is_named, syncs_by};
 
 use crate::calls::longest_call;
 use crate::fault::{RunError, Stopped};
@@ -20,7 +21,7 @@ use crate::places::Places;
 use crate::spots::ends;
 use crate::store::{Store, file_name};
 use crate::syncing::Syncs;
-use crate::workers::{Ran, run};
+use crate::workers::{Halted, Ran, nothing_noted, run};
 use std::alloc::{AllocError, Global};
 use std::marker::Sync;
 use std::rt::Clock;
@@ -29,7 +30,9 @@ use std::thread::Threads;
 use waff_inputs::{Accepted, ToolError};
 use waff_list::{Rule, list_plan_of};
 use waff_model::{Message, Trace};
-use waff_record::{RecordError, Recorded, RunTurns, accept_measured, record_of};
+use waff_record::{
+    RecordError, Recorded, RunTurns, StoppedRun, accept_measured, record_left, record_of,
+};
 
 /// How a run is run.
 #[derive(Clone, Copy)]
@@ -41,6 +44,8 @@ pub struct Settings<'a> {
     pub sync_writes: bool,
     /// The names of the messages at whose end the files of their cells are synced.
     pub syncs: &'a [String],
+    /// Whether the messages that had ended are told of a run that breaks off.
+    pub partial: bool,
 }
 
 /// What is told of a run, and the hands by which its messages asked.
@@ -48,6 +53,13 @@ pub struct Settings<'a> {
 pub struct RanOn<H: Drop> {
     pub told: Recorded,
     pub hands: Vec<Option<H>>,
+}
+
+/// Why a run broke off, and what is told of it all the same, of the messages that had ended.
+#[derive(Drop)]
+pub struct Broken {
+    pub error: RunError,
+    pub told: Option<Recorded>,
 }
 
 /// Runs the messages of the trace, which these bytes are, on the store. `hands` has one for each message, by which it asks;
@@ -63,9 +75,10 @@ pub fn run_on<R: Threads + Wait + Clock + Eprint + Sync, S: Store + Sync>(
     hands: Vec<Option<S::Hand>>,
     places: &Places,
     settings: &Settings<'_>,
-) -> Result<RanOn<S::Hand>, RunError>
+) -> Result<RanOn<S::Hand>, Broken>
     requires workers { IsWorkers settings.now.pace.workers }
     requires tick { 1 ≤ settings.now.pace.tick }
+    requires assigned { IsAssignment accepted.now.layout accepted.now.trace.messages accepted.now.assigned }
     requires fresh { AreFresh (length accepted.now.trace.messages)
         (map (option_map S.log) hands.items) }
     ensures told { IfOk result (λ ran. TellRun hierarchy.now
@@ -76,10 +89,60 @@ pub fn run_on<R: Threads + Wait + Clock + Eprint + Sync, S: Store + Sync>(
         (map (option_map S.log) ran.hands.items)) }
     ensures filled { OnOk result (GoesOn (S.log hand.old) (S.log hand.new)
         (AsksFilling places.now settings.now.fill (cells_named accepted.now.trace.messages))) }
-    ensures refused { IfErr result (IsOfRunning
-        (job_of accepted.now.layout places.now accepted.now.trace) settings.now.pace.workers) }
+    ensures refused { IfErr result (λ broken. IsOfRunning
+        (job_of accepted.now.layout places.now accepted.now.trace) settings.now.pace.workers broken.error) }
+    ensures left { IfErr result (λ broken. IfSome broken.told (λ told. TellPart hierarchy.now
+        (instance_under accepted.now.layout accepted.now.assigned accepted.now.trace)
+        settings.now.pace.workers settings.now.pace.tick
+        (string_bytes told.measured) (string_bytes told.text) told.drift)) }
+    ensures wanted { IfErr result (λ broken. IfSome broken.told (λ _. settings.now.partial ≡ true)) }
 {
-    let Ran { turns, hands } = ran_on(rt, alloc, accepted, store, hand, hands, places, settings)?;
+    let filled = fill_all(alloc, accepted, store, hand, places, settings);
+    if let Err(error) = filled {
+        drop(hands);
+        return Err(untold(error));
+    }
+    match ran_on(rt, alloc, accepted, store, hands, places, settings) {
+        Ok(ran) => told_on(rt, alloc, accepted, hierarchy, trace, ran, places, settings),
+        Err(halted) => Err(broken_of(
+            rt, alloc, accepted, hierarchy, trace, halted, places, settings,
+        )),
+    }
+}
+
+/// Why a run broke off of which nothing is told.
+fn untold(error: RunError) -> Broken
+    ensures error { result.error ≡ error }
+    ensures none { result.told ≡ None }
+{
+    Broken { error, told: None }
+}
+
+/// What is told of a run that came to its end.
+fn told_on<R: Threads + Sync, H: Drop>(
+    rt: &R,
+    alloc: Global,
+    accepted: &Accepted,
+    hierarchy: &[u8],
+    trace: &[u8],
+    ran: Ran<H>,
+    places: &Places,
+    settings: &Settings<'_>,
+) -> Result<RanOn<H>, Broken>
+    requires workers { IsWorkers settings.now.pace.workers }
+    requires tick { 1 ≤ settings.now.pace.tick }
+    requires ran { AreRunTurns (course_by (instance_under accepted.now.layout
+        accepted.now.assigned accepted.now.trace) settings.now.pace.workers settings.now.pace.tick) ran.turns.items }
+    ensures told { IfOk result (λ on. TellRun hierarchy.now
+        (instance_under accepted.now.layout accepted.now.assigned accepted.now.trace)
+        settings.now.pace.workers settings.now.pace.tick (string_bytes on.told.measured)
+        (string_bytes on.told.text) on.told.drift) }
+    ensures hands { IfOk result (λ on. on.hands ≡ ran.hands) }
+    ensures refused { IfErr result (λ broken. IsOfRunning
+        (job_of accepted.now.layout places.now accepted.now.trace) settings.now.pace.workers broken.error) }
+    ensures nothing { IfErr result (λ broken. broken.told ≡ None) }
+{
+    let Ran { turns, hands } = ran;
     let run = RunTurns {
         case: accepted.case(),
         turns: turns.as_slice(),
@@ -93,22 +156,72 @@ pub fn run_on<R: Threads + Wait + Clock + Eprint + Sync, S: Store + Sync>(
         Err(error) => {
             drop(hands);
             let workers = settings.pace.workers;
-            Err(fault_of(alloc, accepted, places, workers, Stopped::from(error)))
+            let why = Stopped::from(error);
+            Err(untold(fault_of(alloc, accepted, places, workers, why)))
         }
     }
 }
 
-/// What happens when the cells are filled, where they are to be, and then the messages are run.
+/// Why a run broke off that was stopped, and what is told of it.
+fn broken_of<R: Threads + Sync>(
+    rt: &R,
+    alloc: Global,
+    accepted: &Accepted,
+    hierarchy: &[u8],
+    trace: &[u8],
+    halted: Halted,
+    places: &Places,
+    settings: &Settings<'_>,
+) -> Broken
+    requires workers { IsWorkers settings.now.pace.workers }
+    requires tick { 1 ≤ settings.now.pace.tick }
+    requires assigned { IsAssignment accepted.now.layout accepted.now.trace.messages accepted.now.assigned }
+    requires reached { IfSome halted.turns (λ turns. AreReached (course_by (instance_under accepted.now.layout
+        accepted.now.assigned accepted.now.trace) settings.now.pace.workers settings.now.pace.tick) turns.items) }
+    ensures refused { IsOfRunning
+        (job_of accepted.now.layout places.now accepted.now.trace) settings.now.pace.workers result.error }
+    ensures left { IfSome result.told (λ told. TellPart hierarchy.now
+        (instance_under accepted.now.layout accepted.now.assigned accepted.now.trace)
+        settings.now.pace.workers settings.now.pace.tick
+        (string_bytes told.measured) (string_bytes told.text) told.drift) }
+    ensures wanted { IfSome result.told (λ _. settings.now.partial ≡ true) }
+{
+    let Halted { why, turns } = halted;
+    let error = fault_of(alloc, accepted, places, settings.pace.workers, why);
+    let Some(turns) = turns else {
+        return untold(error);
+    };
+    if !settings.partial {
+        drop(turns);
+        return untold(error);
+    }
+    let run = StoppedRun {
+        whole: accepted,
+        turns: turns.as_slice(),
+        workers: settings.pace.workers,
+        tick: settings.pace.tick,
+    };
+    let left = record_left(rt, alloc, &run, hierarchy, trace);
+    drop(turns);
+    match left {
+        Ok(told) => Broken {
+            error,
+            told: Some(told),
+        },
+        Err(_) => untold(error),
+    }
+}
+
+/// What happens when the messages are run.
 fn ran_on<R: Threads + Wait + Clock + Eprint + Sync, S: Store + Sync>(
     rt: &R,
     alloc: Global,
     accepted: &Accepted,
     store: &S,
-    hand: &mut S::Hand,
     hands: Vec<Option<S::Hand>>,
     places: &Places,
     settings: &Settings<'_>,
-) -> Result<Ran<S::Hand>, RunError>
+) -> Result<Ran<S::Hand>, Halted>
     requires workers { IsWorkers settings.now.pace.workers }
     requires fresh { AreFresh (length accepted.now.trace.messages)
         (map (option_map S.log) hands.items) }
@@ -116,15 +229,18 @@ fn ran_on<R: Threads + Wait + Clock + Eprint + Sync, S: Store + Sync>(
         accepted.now.assigned accepted.now.trace) settings.now.pace.workers settings.now.pace.tick) ran.turns.items) }
     ensures asked { IfOk result (λ ran. AreAsked (asking_by places.now accepted.now.trace settings.now)
         (map (option_map S.log) ran.hands.items)) }
-    ensures filled { OnOk result (GoesOn (S.log hand.old) (S.log hand.new)
-        (AsksFilling places.now settings.now.fill (cells_named accepted.now.trace.messages))) }
-    ensures refused { IfErr result (IsOfRunning
-        (job_of accepted.now.layout places.now accepted.now.trace) settings.now.pace.workers) }
+    ensures halted { IfErr result (λ halted. IfSome halted.turns (λ turns. AreReached (course_by (instance_under
+        accepted.now.layout accepted.now.assigned accepted.now.trace) settings.now.pace.workers settings.now.pace.tick)
+        turns.items)) }
 {
-    fill_all(alloc, accepted, store, hand, places, settings)?;
-    let workers = settings.pace.workers;
     let longest = longest_call(&accepted.trace, places);
-    let syncs = syncs_of(alloc, &accepted.trace, settings)?;
+    let syncs = match syncs_of(alloc, &accepted.trace, settings) {
+        Ok(syncs) => syncs,
+        Err(_) => {
+            drop(hands);
+            return Err(nothing_noted(Stopped::Memory));
+        }
+    };
     let case = accepted.case();
     let ran = run(
         rt,
@@ -138,10 +254,7 @@ fn ran_on<R: Threads + Wait + Clock + Eprint + Sync, S: Store + Sync>(
         settings.pace,
     );
     drop(syncs);
-    match ran {
-        Ok(ran) => Ok(ran),
-        Err(stopped) => Err(fault_of(alloc, accepted, places, workers, stopped)),
-    }
+    ran
 }
 
 /// Each cell that the trace names is read and written back, where it is to be.

@@ -2,11 +2,11 @@
 //! line is told the clock as it is.
 
 ghost use Rattle.std.specs.Bool.{OnTrue};
-ghost use Rattle.std.specs.Prelude.{◌≡◌, ℕ, All, IfOk, OnOk, length, map, option_map, true};
+ghost use Rattle.std.specs.Prelude.{◌≡◌, ℕ, All, IfErr, IfOk, IfSome, None, OnOk, length, map, option_map, true};
 ghost use Rattle.waff_assign.specs.Case.{instance_of};
 ghost use Rattle.waff_line.specs.Laws.{AreAllEnded};
 ghost use Rattle.waff_line.specs.Machine.{IsCourse};
-ghost use Rattle.waff_line.specs.Turns.{AreRunTurns, course_by};
+ghost use Rattle.waff_line.specs.Turns.{AreReached, AreRunTurns, course_by};
 ghost use Rattle.waff_plan.specs.Bound.{IsWorkers};
 ghost use Rattle.waff_run.specs.Hands.{AreAsked, AreFresh, asking_of};
 
@@ -38,6 +38,13 @@ pub struct Ran<H: Drop> {
     pub hands: Vec<Option<H>>,
 }
 
+/// Why a run was stopped, and what was noted of its messages by then; nothing where it had not begun, or memory was refused.
+#[derive(Drop)]
+pub struct Halted {
+    pub why: Stopped,
+    pub turns: Option<Vec<Turn>>,
+}
+
 /// Runs the messages of a case on a store, by threads. `syncs` says for each message which files are synced at
 /// its end; `hands` has one for each message, by which it is asked. That it tells when the threads did that, no clause says.
 pub fn run<R: Threads + Wait + Clock + Eprint + Sync, S: Store + Sync>(
@@ -50,7 +57,7 @@ pub fn run<R: Threads + Wait + Clock + Eprint + Sync, S: Store + Sync>(
     syncs: &[Syncs],
     longest: usize,
     pace: Pace,
-) -> Result<Ran<S::Hand>, Stopped>
+) -> Result<Ran<S::Hand>, Halted>
     requires workers { IsWorkers pace.workers }
     requires fresh { AreFresh (length case.trace.now.messages) (map (option_map S.log) hands.items) }
     ensures ran { IfOk result (λ ran.
@@ -58,6 +65,8 @@ pub fn run<R: Threads + Wait + Clock + Eprint + Sync, S: Store + Sync>(
     ensures asked { IfOk result (λ ran. AreAsked
         (asking_of places.now case.entry.trace.now.messages syncs.now)
         (map (option_map S.log) ran.hands.items)) }
+    ensures halted { IfErr result (λ halted. IfSome halted.turns (λ turns.
+        AreReached (course_by (instance_of case.entry) pace.workers pace.tick) turns.items)) }
 {
     run_at::<Brand, R, S>(rt, alloc, case, store, hands, places, syncs, longest, pace)
 }
@@ -73,20 +82,21 @@ fn run_at<C: RunOf + Send + Sync, R: Threads + Wait + Clock + Eprint + Sync, S: 
     syncs: &[Syncs],
     longest: usize,
     pace: Pace,
-) -> Result<Ran<S::Hand>, Stopped>
+) -> Result<Ran<S::Hand>, Halted>
     requires workers { IsWorkers pace.workers }
     requires fresh { AreFresh (length case.trace.now.messages) (map (option_map S.log) hands.items) }
     requires course { course_by (instance_of case) pace.workers pace.tick ≡ C.course }
     requires asking { asking_of places.now case.trace.now.messages syncs.now ≡ C.asking }
     ensures ran { IfOk result (λ ran. AreRunTurns C.course ran.turns.items) }
     ensures asked { IfOk result (λ ran. AreAsked C.asking (map (option_map S.log) ran.hands.items)) }
+    ensures halted { IfErr result (λ halted. IfSome halted.turns (λ turns. AreReached C.course turns.items)) }
 {
     let _messages = case.trace.len();
     let Ok(line) = Line::of(alloc, case, pace.workers, pace.tick) else {
-        return Err(Stopped::Memory);
+        return Err(nothing_noted(Stopped::Memory));
     };
     let Ok(rooms) = rooms(alloc, places, longest, pace.workers) else {
-        return Err(Stopped::Memory);
+        return Err(nothing_noted(Stopped::Memory));
     };
     let locked = Mutex::new(Locked::<C, S>::of(Going::of(line, hands)));
     let changed = Condvar::new();
@@ -106,9 +116,16 @@ fn run_at<C: RunOf + Send + Sync, R: Threads + Wait + Clock + Eprint + Sync, S: 
     let locked = locked.into_inner();
     clear_progress(rt, &locked);
     if started < pace.workers {
-        return Err(Stopped::Threads(started));
+        return Err(nothing_noted(Stopped::Threads(started)));
     }
     ended(alloc, locked)
+}
+
+/// Nothing was noted of a run that was stopped for this.
+pub(crate) fn nothing_noted(why: Stopped) -> Halted
+    ensures { result.turns ≡ None }
+{
+    Halted { why, turns: None }
 }
 
 /// Clears the line of progress, where one was told: what is told next has a line of its own.
@@ -157,21 +174,34 @@ fn rooms(
 fn ended<C: RunOf, S: Store>(
     alloc: Global,
     locked: Locked<'_, C, S>,
-) -> Result<Ran<S::Hand>, Stopped>
+) -> Result<Ran<S::Hand>, Halted>
     requires { IsCourse C.course }
     ensures ran { IfOk result (λ ran. AreRunTurns C.course ran.turns.items) }
     ensures asked { IfOk result (λ ran. AreAsked C.asking (map (option_map S.log) ran.hands.items)) }
+    ensures halted { IfErr result (λ halted. IfSome halted.turns (λ turns. AreReached C.course turns.items)) }
 {
     let Locked { line, stopped, .. } = locked;
-    if let Some(stopped) = stopped {
-        return Err(stopped);
+    if let Some(why) = stopped {
+        let turns = turns_noted(alloc, &line);
+        drop(line);
+        return Err(Halted { why, turns });
     }
     match turns_of(alloc, &line) {
         Ok(turns) => Ok(Ran {
             turns,
             hands: line.into_hands(),
         }),
-        Err(stopped) => Err(stopped),
+        Err(stopped) => Err(nothing_noted(stopped)),
+    }
+}
+
+/// The turns of a line, whether their messages have ended or not; nothing where memory was refused.
+fn turns_noted<C: RunOf, S: Store>(alloc: Global, line: &Going<'_, C, S>) -> Option<Vec<Turn>>
+    ensures { IfSome result (λ turns. AreReached C.course turns.items) }
+{
+    match Vec::from_slice(alloc, line.turns()) {
+        Ok(turns) => Some(turns),
+        Err(_) => None,
     }
 }
 

@@ -3,8 +3,8 @@ use Rattle.std.proofs.lemmas.Result.{IfErr-weaker, IfOk-weaker}
 use Rattle.waff_inputs.specs.Inputs.{Refuses, instance_under}
 use Rattle.waff_tool.specs.Ranks.{file_at}
 use Rattle.waff_answer.specs.Answers.{bytes_of, first, second}
-use Rattle.waff_answer.specs.Runs.{IsRunText, RefusesRun}
-use Rattle.waff_answer.proofs.Running.{refuses_run}
+use Rattle.waff_answer.specs.Runs.{IsPartText, IsRunText, RefusesRun}
+use Rattle.waff_answer.proofs.Running.{assigned_under, refuses_run, some_weaker}
 use Rattle.waff_answer.proofs.runs.ran.Goals as goal
 
 pub returns-in-Ok : goal.returns-in-Ok
@@ -28,8 +28,28 @@ returns-in-Ok g c =
           })))
           c.ran_on_files-ran.ensures.told;
       refused = IfErr-weaker c.ran_on_files-ran.result _ _
-          (λ error of. subst (λ h. RefusesRun h (second files) c.args.task.now error) hierarchy
-          (subst (λ t. RefusesRun c.file-hierarchy.result.now t c.args.task.now error) trace
-          (refuses_run c.file-hierarchy.result.now c.file-trace.result.now instance accepted.layout is c.in-Ok.ensures.layout c.args.task.now error of)))
+          (λ broke of. subst (λ h. RefusesRun h (second files) c.args.task.now broke.error) hierarchy
+          (subst (λ t. RefusesRun c.file-hierarchy.result.now t c.args.task.now broke.error) trace
+          (refuses_run c.file-hierarchy.result.now c.file-trace.result.now instance accepted.layout is c.in-Ok.ensures.layout c.args.task.now broke.error of)))
           c.ran_on_files-ran.ensures.refused;
+      left = IfErr-weaker c.ran_on_files-ran.result _ _
+          (λ broke. some_weaker broke.left _ _
+          (λ left texts. subst (λ h. IsPartText h (second files) k c.args.task.now.words.tick (string_bytes left.told.text) left.told.drift) hierarchy
+          (subst (λ t. IsPartText c.file-hierarchy.result.now t k c.args.task.now.words.tick (string_bytes left.told.text) left.told.drift) trace
+          (record {
+            instance = instance;
+            accepts = is;
+            measured = string_bytes left.told.measured;
+            texts = texts;
+          }))))
+          c.ran_on_files-ran.ensures.left;
+      wanted = c.ran_on_files-ran.ensures.wanted;
+    }
+
+pub ran_on_files-ran-requires : goal.ran_on_files-ran-requires
+ran_on_files-ran-requires g c =
+    let accepted = c.in-Ok.accepted in
+    record {
+      assigned = assigned_under c.file-hierarchy.result.now c.file-trace.result.now accepted.layout accepted.assigned accepted.trace c.in-Ok.ensures.accepted
+          c.in-Ok.ensures.layout;
     }

@@ -2,7 +2,7 @@ use Rattle.std.proofs.Common.{subst}
 use Rattle.waff_assign.specs.Case.{instance_of}
 use Rattle.waff_line.specs.Machine.{Course, IsCourse}
 use Rattle.waff_plan.proofs.TimingLemmas.{are_timings}
-use Rattle.waff_run.proofs.Reached.{is_course_by}
+use Rattle.waff_record.proofs.Ended.{is_course_by}
 use Rattle.waff_run.proofs.workers.run_at.Goals as goal
 
 pub ended-requires-after_bounds : goal.ended-requires-after_bounds

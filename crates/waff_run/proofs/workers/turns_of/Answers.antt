@@ -1,4 +1,4 @@
-use Rattle.waff_run.proofs.Reached.{all_ended, run_turns}
+use Rattle.waff_record.proofs.Ended.{all_ended, run_turns}
 use Rattle.waff_run.proofs.workers.turns_of.Goals as goal
 
 pub returns-in-Ok-clause-ran : goal.returns-in-Ok-clause-ran

@@ -1,5 +1,5 @@
 use Rattle.waff_parse.specs.Rows.{Reads}
-use Rattle.waff_record.proofs.told.measured_text.Given as goal
+use Rattle.waff_record.proofs.told.text_again.Given as goal
 
 abbrev pub invariant-loop-number : goal.invariant-loop-number
 invariant-loop-number l = Reads l.rows
