@@ -46,10 +46,8 @@ returns-in-Ok g c =
       wanted = c.ran_on_files-ran.ensures.wanted;
     }
 
-pub ran_on_files-ran-requires : goal.ran_on_files-ran-requires
-ran_on_files-ran-requires g c =
+pub ran_on_files-ran-requires-clause-assigned : goal.ran_on_files-ran-requires-clause-assigned
+ran_on_files-ran-requires-clause-assigned g c κs within =
     let accepted = c.in-Ok.accepted in
-    record {
-      assigned = assigned_under c.file-hierarchy.result.now c.file-trace.result.now accepted.layout accepted.assigned accepted.trace c.in-Ok.ensures.accepted
-          c.in-Ok.ensures.layout;
-    }
+    assigned_under c.file-hierarchy.result.now c.file-trace.result.now accepted.layout accepted.assigned accepted.trace c.in-Ok.ensures.accepted
+    c.in-Ok.ensures.layout
