@@ -8,6 +8,7 @@ mod PathPlans
 mod FinishLemmas
 pub mod Uniqueness
 pub mod SeatsUniqueness
+pub mod ServedUniqueness
 pub mod TailLemmas
 pub mod RuleLemmas
 pub mod ServedPlans

@@ -4,29 +4,17 @@ use Rattle.std.proofs.lemmas.Bool.{cases_lt}
 use Rattle.std.proofs.lemmas.List.{get_or-map, length-map, same_lists}
 use Rattle.waff_model.specs.Layout.{Hierarchy, IsLayout, lockings_of, with_lockings}
 use Rattle.waff_model.specs.Messages.{Arrivals, IsTrace}
-use Rattle.waff_model.specs.Tree.{Node}
 use Rattle.waff_model.specs.Unique.{AtMostOne}
 use Rattle.waff_model.specs.declared.locking.Locking.{Locking}
-use Rattle.waff_model.specs.declared.message.Version.{Version}
-use Rattle.waff_model.specs.declared.message.Version.TheVariants.{V1, V2, V3, V4}
 use Rattle.waff_model.proofs.Relocking.{with_is_layout}
-use Rattle.waff_assign.specs.Held.{Held}
 use Rattle.waff_assign.specs.Instance.{Instance}
-use Rattle.waff_assign.specs.Order.{IsOrdered}
 use Rattle.waff_assign.proofs.Uniqueness.{assignment_is_one}
 use Rattle.waff_plan.specs.Instances.{work_of_instance}
-use Rattle.waff_plan.specs.Obeys.{AwaitsEarlier}
 use Rattle.waff_plan.specs.Timing.{start_of}
-use Rattle.waff_plan.specs.Unique.{AreSame}
-use Rattle.waff_plan.specs.Work.{Work}
-use Rattle.waff_plan.proofs.Forward.{IsOrdered_forward}
 use Rattle.waff_plan.proofs.ServingLemmas.{least_served_is_one}
 use Rattle.waff_plan.proofs.Uniqueness.{same_length}
-use Rattle.waff_list.specs.Served.{IsPlanServed}
-use Rattle.waff_list.specs.Unique.{EachRuns}
 use Rattle.waff_list.specs.declared.rule.Rule.{Rule}
-use Rattle.waff_list.proofs.IssuePlans.{plan_by_issue_is_one}
-use Rattle.waff_list.proofs.RuleLemmas.{rule_plan_is_one}
+use Rattle.waff_list.proofs.ServedUniqueness.{plan_served_is_one}
 use Rattle.waff_list.proofs.TraceWork.{count_is, trace_is_small}
 use Rattle.waff_plan_text.specs.Lines.{text_of}
 use Rattle.waff_figures.proofs.LeastLaws.{follows_in}
@@ -72,19 +60,6 @@ neither (x ∷ xs) (y ∷ ys) long not other =
       ]
     ]
 
--- the plan by a rule
-rule_by : (version : Version) (rule : Rule) (tree : List Node) (assigned : List Held) (work : Work) → length assigned ≡ work.count → AwaitsEarlier work
-    → EachRuns work → (k : ℕ) (start other : ℕ → ℕ) → IsPlanServed version rule tree assigned work k start
-    → IsPlanServed version rule tree assigned work k other → AreSame work start other
-rule_by V1 rule tree assigned work count follows runs k start other one two =
-    rule_plan_is_one (IsOrdered tree assigned) work (IsOrdered_forward tree assigned work count follows) runs rule k start other one two
-rule_by V2 rule tree assigned work count follows runs k start other one two =
-    rule_plan_is_one (IsOrdered tree assigned) work (IsOrdered_forward tree assigned work count follows) runs rule k start other one two
-rule_by V3 rule tree assigned work count follows runs k start other one two =
-    plan_by_issue_is_one tree assigned work follows runs rule k start other one two
-rule_by V4 rule tree assigned work count follows runs k start other one two =
-    plan_by_issue_is_one tree assigned work follows runs rule k start other one two
-
 list_length_is_one : (rule : Rule) (instance : Instance) → IsTrace instance.trace → length instance.assigned ≡ length instance.trace.messages
     → (workers plan other : Option ℕ) → IsListLength rule instance workers plan → IsListLength rule instance workers other → plan ≡ other
 list_length_is_one rule instance is_trace same None None None one two = refl
@@ -94,7 +69,7 @@ list_length_is_one rule instance is_trace same (Some k) None other one two = abs
 list_length_is_one rule instance is_trace same (Some k) (Some plan) None one two = absurd two
 list_length_is_one rule instance is_trace same (Some k) (Some plan) (Some other) one two =
     let work = work_of_instance instance in
-    let starts = rule_by instance.trace.version rule instance.tree instance.assigned work (same ∙ sym (count_is instance.trace.messages)) (follows_in instance is_trace)
+    let starts = plan_served_is_one instance.trace.version rule instance.tree instance.assigned work (same ∙ sym (count_is instance.trace.messages)) (follows_in instance is_trace)
     (λ m number. (trace_is_small instance.trace is_trace).some_cost m number) k (start_of one.0) (start_of two.0) one.1 two.1 in
     ap (λ n. Some n) (one.2 ∙ same_length work (start_of one.0) (start_of two.0) starts ∙ sym two.2)
 

@@ -90,12 +90,12 @@ impl Joining {
     {
         let m = self.lists.len() as u32 + 1;
         let (affinity, uses) = (assigned.affinity(n), assigned.uses(n));
-        let is_root = is_root(affinity);
-        let root = self.frontier.latest.at(spans[0].first as usize);
+        let (root, is_root) = (spans[0].first as usize, is_root(affinity));
+        let latest = &self.frontier.latest;
         self.needs.clear();
-        self.takers.list(uses, root, is_root, &mut self.needs)?;
+        self.takers
+            .take(latest, root, uses, m, is_root, &mut self.needs)?;
         self.frontier.add(spans, affinity, m, &mut self.needs)?;
-        self.takers.note(uses, m, root, is_root)?;
         self.needs.sort_unstable();
         self.needs.dedup();
         if self.needs.len() > u32::MAX as usize - self.lists.total() {

@@ -1,12 +1,14 @@
 //! The messages that are open at locks.
 
 ghost use Rattle.std.specs.Prelude.{◌≡◌, ◌<◌, ◌++◌, ℕ, List, [], ◌∷◌, length, Contains, if◌then◌else◌, IfOk, IsTrue, OnOk};
+ghost use Rattle.std.specs.Prelude.{slice_index};
 ghost use Rattle.waff_order.specs.Takers.{AreKept, AreStates, AreTouched, IsChain, LockState};
 ghost use Rattle.waff_order.specs.Takers.{needs_at, needs_by, note_use, note_uses, opened_at, opened_by};
 ghost use Rattle.waff_order.specs.Takers.{state_at, taken_at};
 
 use std::alloc::{AllocError, Global};
 use waff_assign::LockUse;
+use waff_model::spans::Spread;
 
 /// A message that shares a lock, and the place, from 1, of the one before it in the chain of its lock: 0 where
 /// there is none.
@@ -48,10 +50,47 @@ impl Takers {
         }
     }
 
+    /// Message `m` joins: appends what it needs, by the locks, of those that joined before, and notes it at the locks
+    /// that it uses. `latest` has the latest message in the root at the place `root`, 0 where there is none.
+    pub fn take(
+        &mut self,
+        latest: &Spread<u32>,
+        root: usize,
+        uses: &[LockUse],
+        m: u32,
+        is_root: bool,
+        needs: &mut Vec<u32>,
+    ) -> Result<(), AllocError>
+        requires within { root < length latest.now }
+        requires kept { AreKept self.old.locks.items self.old.chain.items }
+        ensures needs { OnOk result ((states : List LockState)
+            → AreStates self.old.locks.items self.old.chain.items states
+            → needs.new.items ≡ needs.old.items ++ (if is_root
+            then opened_by (slice_index latest.now root) states self.old.touched.items
+            else needs_by (slice_index latest.now root) states uses.now)) }
+        ensures kept { OnOk result ((states : List LockState)
+            → AreStates self.old.locks.items self.old.chain.items states
+            → AreStates self.new.locks.items self.new.chain.items (note_uses m states uses.now)) }
+        ensures touched { OnOk result ((states : List LockState)
+            → AreStates self.old.locks.items self.old.chain.items states
+            → AreTouched (if is_root then m else slice_index latest.now root) states
+            (if is_root then [] else self.old.touched.items)
+            → AreTouched (if is_root then m else slice_index latest.now root)
+            (note_uses m states uses.now) self.new.touched.items) }
+    {
+        if uses.is_empty() && !is_root {
+            return Ok(());
+        }
+        let root = latest.at(root);
+        self.list(uses, root, is_root, needs)?;
+        self.note(uses, m, root, is_root)?;
+        Ok(())
+    }
+
     /// Appends what a message needs, by the locks, of those that joined before: at each lock that it uses those open
     /// at it, or where there is none the latest above it, and in the root those that are open at all locks. `root` is
     /// the latest message in the root, 0 where there is none.
-    pub fn list(
+    fn list(
         &self,
         uses: &[LockUse],
         root: u32,
@@ -141,7 +180,7 @@ impl Takers {
 
     /// Notes message `m`, which joins, at the locks that it uses, where `root` is the latest message in the root before
     /// it. Where it runs in the root, all others are closed.
-    pub fn note(
+    fn note(
         &mut self,
         uses: &[LockUse],
         m: u32,

@@ -4,7 +4,7 @@ use Rattle.waff_model.specs.Tree.{Node}
 use Rattle.waff_model.specs.declared.message.Version.{Version}
 use Rattle.waff_model.specs.declared.message.Version.TheVariants.{V1, V2, V3, V4}
 use Rattle.waff_assign.specs.Instance.{Instance}
-use Rattle.waff_assign.specs.Order.{IsOrdered, Relation}
+use Rattle.waff_assign.specs.Order.{Relation}
 use Rattle.waff_plan.specs.Chain.{IsPrinted, LeadsToEnd}
 use Rattle.waff_plan.specs.Instances.{served_first, started_first, work_of_instance}
 use Rattle.waff_plan.specs.Obeys.{AwaitsEarlier, IsForward, IsLeast, IsLinked, StartsIssued}
@@ -15,11 +15,9 @@ use Rattle.waff_plan.proofs.Forward.{IsOrdered_forward}
 use Rattle.waff_plan.proofs.ServingLemmas.{least_served_is_one}
 use Rattle.waff_plan.proofs.StartOrder.{IsStartedBefore_forward}
 use Rattle.waff_plan.proofs.Uniqueness.{printed_is_one}
-use Rattle.waff_list.specs.Served.{IsPlanServed}
 use Rattle.waff_list.specs.Unique.{EachRuns}
 use Rattle.waff_list.specs.declared.rule.Rule.{Rule}
-use Rattle.waff_list.proofs.IssuePlans.{plan_by_issue_is_one}
-use Rattle.waff_list.proofs.RuleLemmas.{rule_plan_is_one}
+use Rattle.waff_list.proofs.ServedUniqueness.{plan_served_is_one}
 use Rattle.waff_list.proofs.TraceWork.{count_is}
 use Rattle.waff_figures.specs.Sweep.{IsPlanOf}
 use Rattle.waff_figures.proofs.WaitUnique.{started_same}
@@ -65,19 +63,6 @@ forward_by V2 tree assigned work count follows runs start issued = IsOrdered_for
 forward_by V3 tree assigned work count follows runs start issued = IsStartedBefore_forward tree assigned work count runs start issued follows
 forward_by V4 tree assigned work count follows runs start issued = IsStartedBefore_forward tree assigned work count runs start issued follows
 
--- the plan by a rule
-rule_by : (version : Version) (rule : Rule) (tree : List Node) (assigned : List Held) (work : Work) → length assigned ≡ work.count → AwaitsEarlier work
-    → EachRuns work → (k : ℕ) (start other : ℕ → ℕ) → IsPlanServed version rule tree assigned work k start
-    → IsPlanServed version rule tree assigned work k other → AreSame work start other
-rule_by V1 rule tree assigned work count follows runs k start other one two =
-    rule_plan_is_one (IsOrdered tree assigned) work (IsOrdered_forward tree assigned work count follows) runs rule k start other one two
-rule_by V2 rule tree assigned work count follows runs k start other one two =
-    rule_plan_is_one (IsOrdered tree assigned) work (IsOrdered_forward tree assigned work count follows) runs rule k start other one two
-rule_by V3 rule tree assigned work count follows runs k start other one two =
-    plan_by_issue_is_one tree assigned work follows runs rule k start other one two
-rule_by V4 rule tree assigned work count follows runs k start other one two =
-    plan_by_issue_is_one tree assigned work follows runs rule k start other one two
-
 module _ (instance : Instance) (sound : IsSound instance) where
   abbrev work : Work
   work = work_of_instance instance
@@ -92,7 +77,7 @@ module _ (instance : Instance) (sound : IsSound instance) where
 
   pub rule_in_one : (rule : Rule) (k : ℕ) (start other : ℕ → ℕ) → IsPlanOf rule instance k start → IsPlanOf rule instance k other → AreSame work start other
   rule_in_one rule k start other one two =
-      rule_by instance.trace.version rule instance.tree instance.assigned work count_in sound.earlier sound.runs k start other one two
+      plan_served_is_one instance.trace.version rule instance.tree instance.assigned work count_in sound.earlier sound.runs k start other one two
 
   pub chain_in_one : (start other : ℕ → ℕ) (chain other_chain : List ℕ) → StartsIssued work start → AreSame work start other
       → IsPrinted (started_first instance start) work start chain → IsPrinted (started_first instance other) work other other_chain → chain ≡ other_chain

@@ -28,9 +28,9 @@ returns-clause-joined c = λ tree assigned joined.
       needs = c.push.new.self;
       opened = c.add.new.self.opened;
       latest = c.add.new.self.latest;
-      locks = c.note.new.self.locks.items;
-      chain = c.note.new.self.chain.items;
-      touched = c.note.new.self.touched.items;
+      locks = c.take.new.self.locks.items;
+      chain = c.take.new.self.chain.items;
+      touched = c.take.new.self.touched.items;
     } in
     let h : HaveJoined tree spans assigned inside = subst (HaveJoined tree spans assigned) (sym c.self.view_is) joined in
     let held : Held = held_of c.args.assigned.now c.args.n in
@@ -40,16 +40,15 @@ returns-clause-joined c = λ tree assigned joined.
     let is_root = c.is_root-is_root.result in
     let tells : IsTrue is_root ↔ (held.affinity ≡ Some 0) = subst (λ o. IsTrue is_root ↔ (o ≡ Some 0)) affinity c.is_root-is_root.ensures in
     let root : ℕ = root_of spans inside.latest in
-    let at : c.at-root.result ≡ root = c.at-root.ensures in
     let uses : c.uses-uses.result.now ≡ held.uses = c.uses-uses.ensures in
-    let pick = λ (r : ℕ) (us : List LockUse). if is_root then opened_by r h.states inside.touched else needs_by r h.states us in
-    let listed : c.list.new.needs.items ≡ pick root held.uses
-    = c.in_ok-list.ensures h.states h.are_states ∙ ap (λ xs. xs ++ pick c.at-root.result c.uses-uses.result.now) c.clear.ensures.items
-    ∙ ap (λ r. pick r c.uses-uses.result.now) at ∙ ap (pick root) uses in
-    let raw = pick root held.uses ++ needs_in spans inside.opened inside.latest held.affinity in
+    let pick = λ (us : List LockUse). if is_root then opened_by root h.states inside.touched else needs_by root h.states us in
+    let listed : c.take.new.needs.items ≡ pick held.uses
+    = c.in_ok-take.ensures.needs h.states h.are_states ∙ ap (λ xs. xs ++ pick c.uses-uses.result.now) c.clear.ensures.items
+    ∙ ap pick uses in
+    let raw = pick held.uses ++ needs_in spans inside.opened inside.latest held.affinity in
     let all : c.add.new.needs.items ≡ raw
     = c.in_ok-add.ensures.needs ∙ ap (λ xs. xs ++ needs_in spans inside.opened inside.latest number) listed
-    ∙ ap (λ o. pick root held.uses ++ needs_in spans inside.opened inside.latest o) affinity in
+    ∙ ap (λ o. pick held.uses ++ needs_in spans inside.opened inside.latest o) affinity in
     let list = c.dedup.new.self.items in
     let gathers = gathered raw c.add.new.needs.items c.sort_unstable.new.self.items list all c.sort_unstable.ensures.permutation
     c.sort_unstable.ensures.sorted (dedup_is eqb c.sort_unstable.new.self.items list c.dedup.ensures.filtered) (omega (arith, c.dedup.ensures.bound)) in
@@ -63,11 +62,9 @@ returns-clause-joined c = λ tree assigned joined.
     (c.in_ok-add.ensures.opened ∙ ap (λ k. opened_after spans inside.opened k number) m ∙ ap (opened_after spans inside.opened (length assigned + 1)) affinity)
     (c.in_ok-add.ensures.latest ∙ ap (λ k. latest_after spans inside.latest k number) m ∙ ap (latest_after spans inside.latest (length assigned + 1)) affinity)
     (subst (λ k. AreStates next.locks next.chain (note_uses k h.states held.uses)) m
-    (subst (λ us. AreStates next.locks next.chain (note_uses (c.len.result + 1) h.states us)) uses (c.in_ok-note.ensures.kept h.states h.are_states)))
+    (subst (λ us. AreStates next.locks next.chain (note_uses (c.len.result + 1) h.states us)) uses (c.in_ok-take.ensures.kept h.states h.are_states)))
     (subst (λ k. AreTouched (if is_root then k else root) h.states (if is_root then [] else inside.touched)
     → AreTouched (if is_root then k else root) (note_uses k h.states held.uses) next.touched) m
     (subst (λ us. AreTouched (if is_root then c.len.result + 1 else root) h.states (if is_root then [] else inside.touched)
     → AreTouched (if is_root then c.len.result + 1 else root) (note_uses (c.len.result + 1) h.states us) next.touched) uses
-    (subst (λ r. AreTouched (if is_root then c.len.result + 1 else r) h.states (if is_root then [] else inside.touched)
-    → AreTouched (if is_root then c.len.result + 1 else r) (note_uses (c.len.result + 1) h.states c.uses-uses.result.now) next.touched) at
-    (c.in_ok-note.ensures.touched h.states h.are_states))))
+    (c.in_ok-take.ensures.touched h.states h.are_states)))
