@@ -1,5 +1,5 @@
-"""Where README.md, docs/guide.md or docs/formats.md shows what no command case shows. A case of each command is there, and an
-explanation of a fault has what was found and what is wanted.
+"""Where README.md, docs/guide.md or docs/formats.md shows what no command case shows. A case of each command is there, and a section of
+docs/formats.md, and an explanation of a fault has what was found and what is wanted.
 
 In a block, a line that begins with `$ ` is a command, and the lines under it, up to a blank one or one that begins with `# `, are
 what it prints; a line `...` stands for lines that are left out. A call of waff has to be a case: the same words (but for
@@ -51,6 +51,8 @@ def faults(commands: list[str]) -> list[str]:
         if not re.search(r"^found: .(.|\n)*^wanted: .", case.stream("|"), re.M)
     ]
     found += [f"no case of {name}" for name in commands if name not in called]
+    sections = re.findall(r"^### (?:waff )?([a-z]+)$", read(ROOT / "docs/formats.md"), re.M)
+    found += [f"docs/formats.md: no section of {name}" for name in commands if name not in sections]
     shown_calls = 0
     for name in ("README.md", "docs/guide.md", "docs/formats.md"):
         page = read(ROOT / name)

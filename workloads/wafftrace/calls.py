@@ -33,7 +33,7 @@ def words_of_calls(part: ArgumentParser) -> None:
     part.add_argument(
         "--with", metavar="COMMAND", dest="runner",
         help="a command of the shell that runs the calls of the program: it gets a line of shell for each, and prints what they print,"
-        " in their order (`parallel -k`); without it they run here, as many at once as there are processors",
+        " in their order (`parallel -k`); by default they run here, as many at once as there are processors",
     )
     program_word(part)
 

@@ -157,4 +157,4 @@ def read_tree(name: str) -> Tree:
             before.add(affinity)
         return Tree(table["model"], parents, sizes, maps, Comments.of(text), form in (2, 3), locks)
     except (tomllib.TOMLDecodeError, UnicodeError, KeyError, TypeError, ValueError, AttributeError) as fault:
-        raise Refusal(3, f"{shown(name)}: no hierarchy, `waff explain` tells why ({fault})") from None
+        raise Refusal(3, f"{shown(name)}: no hierarchy, `waff explain` says why ({fault})") from None

@@ -322,7 +322,7 @@ class Page:
                 commands += [it.command, it.figures.command]
             is_drawn = any(it.percentiles for it in under.latencies)
             drawn = self.chart(
-                f"chart-latencies-{number}", "latencies", under if is_drawn else None, "So many of 100 messages have at most this latency.",
+                f"chart-latencies-{number}", "latencies", under if is_drawn else None, "How many of 100 messages have at most this latency.",
                 table(rows, columns, f"table-latencies-{number}", words=("rule",)),
                 folded(percentile_rows(under), {"of": "of 100", **{it.rule: it.rule for it in under.latencies}},
                        f"table-percentiles-{number}", "Each percentile"),
@@ -330,7 +330,7 @@ class Page:
             parts.append(f"<div>{self.heading(under)}{drawn}</div>")
         intro = (
             f"<p>For {of_workers(max(self.report.workers))}. By <b>arrival</b> the ready message that came first starts first, by <b>longest</b>"
-            " the one on which the longest chain of work hangs: mostly a shorter plan, and at times greater latencies.</p>"
+            " the one with the longest chain of messages behind it: mostly a shorter plan, and at times greater latencies.</p>"
         )
         self.section("latencies", "Latencies", intro, blocks(*parts), made_by(*commands))
 

@@ -46,7 +46,7 @@ def words() -> ArgumentParser:
     )
     top.add_argument("--log", metavar="FILE", help="show what the import of the trace said, its kept standard error")
     top.add_argument("--title", metavar="TEXT", help="the title of the page (the names of its files)")
-    top.add_argument("--worst", type=number(1, 100, "number"), metavar="N", default=10, help="show so many of the worst messages (10)")
+    top.add_argument("--worst", type=number(1, 100, "number"), metavar="N", default=10, help="show N of the worst messages (10)")
     top.add_argument("--from", type=tick_of, metavar="T", dest="begin", default=0, help="the tick at which the picture begins (0)")
     top.add_argument(
         "--to", type=tick_of, metavar="T", dest="end", help=f"the tick at which it ends (so that it shows about {PICTURED} messages)"

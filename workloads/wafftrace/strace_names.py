@@ -18,7 +18,7 @@ LETTERS = {"n": "\n", "t": "\t", "r": "\r", "v": "\v", "f": "\f"}
 NO_FILES = ("/dev/", "/proc/", "/sys/")
 SAY_FOLDER = "--cwd FOLDER says where the log begins; strace -y logs all folders"
 IN_NO_FOLDER = f"calls on names in folders not known ({SAY_FOLDER})"
-NOT_OPENED = "calls on descriptors of no file that the log opens (pipes, sockets, what was open before: strace -y)"
+NOT_OPENED = "calls on descriptors of no file that the log opens (pipes, sockets, or open before: strace -y names those)"
 
 
 def unescaped(text: str) -> str:

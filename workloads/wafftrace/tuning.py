@@ -118,7 +118,7 @@ def decimal(least: Fraction, most: int, what: str) -> Callable[[str], float]:
 def words() -> ArgumentParser:
     top = Words(
         prog="waff-tune",
-        description="Tries other numbers of stripes and other units for spaces of a tree, and tells for each how the proved program"
+        description="Tries other numbers of stripes and other units for spaces of a tree, and prints for each how the proved program"
         " plans the trace for K workers: its length, the mean latency of its messages, and the latency that 99 of 100 have at most."
         " The best comes first. The first line is the tree as it is. Tested, not proved; its numbers are the program's.",
     ).version()
@@ -130,13 +130,13 @@ def words() -> ArgumentParser:
     )
     top.add_argument(
         "--space", nargs="+", metavar="NAME",
-        help="spaces that are tuned together; without it the largest of those with stripes, and in a search all of several cells",
+        help="spaces that are tuned together; by default the largest of those with stripes, and in a search all of several cells",
     )
     top.add_argument("--stripes", type=numbers, metavar="N,N..", help="numbers of stripes (1,2,4 .. 32)")
     top.add_argument("--unit", type=numbers, metavar="N,N..", help="units (1,2,4 .. 1024, up to the size of the space)")
     top.add_argument(
         "--by", choices=list(ORDERS),
-        help="the best is the tree of the least length, mean or p99; without it of the least mean where the last message is released"
+        help="the best is the tree of the least length, mean or p99; by default of the least mean where the last message is released"
         " in the second half of the plan under the tree as it is, else of the least length",
     )
     top.add_argument(
@@ -159,7 +159,7 @@ def words() -> ArgumentParser:
     )
     top.add_argument(
         "--gain", action="store_true",
-        help="try no tree: tell for each name of messages and each space what is planned if these messages did not name its cells, the"
+        help="try no tree: print for each name of messages and each space what is planned if these messages did not name its cells, the"
         " greatest gain first",
     )
     top.add_argument(
@@ -181,17 +181,17 @@ def words_of_search(top: ArgumentParser) -> None:
     )
     top.add_argument(
         "--any-place", action="store_true", default=None,
-        help="search trees in which a space may go anywhere; without it a space stays below the lowest affinity that is no stripe and is"
+        help="search trees in which a space may go anywhere; by default a space stays below the lowest affinity that is no stripe and is"
         " at or above all that it has in HIER",
     )
     top.add_argument(
         "--price", type=decimal(Fraction(0), 10, "price"), metavar="PERCENT",
-        help="what each affinity more has to gain (1); a search ends by taking away those that gain less: these changes begin with `fewer:`",
+        help="what each additional affinity has to gain (1); a search ends by taking away those that gain less: these changes begin with `fewer:`",
     )
     top.add_argument("--most", type=number(1, limits.AFFINITIES, "number"), metavar="N", help="how many affinities a tree of a search may have")
     top.add_argument(
         "--enough", type=decimal(Fraction(0), 1000, "part"), metavar="PERCENT",
-        help="end the search at a length that is at most so many percent above the lower bound for all trees (1)",
+        help="end the search at a length that is at most PERCENT above the lower bound for all trees (1)",
     )
     top.add_argument(
         "--curve", action="store_true", default=None,
@@ -199,7 +199,7 @@ def words_of_search(top: ArgumentParser) -> None:
     )
     top.add_argument(
         "--minutes", type=decimal(Fraction(1, 10000), 100000, "time"), metavar="M",
-        help="end the search after so many minutes with the best tree so far, as an interrupt does",
+        help="end the search after M minutes with the best tree so far, as an interrupt does",
     )
     top.add_argument(
         "--sample", type=number(1, limits.MESSAGES, "number"), metavar="N",

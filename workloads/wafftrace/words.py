@@ -66,16 +66,26 @@ weighted by messages, speedup and busy by lengths, running by the messages of wi
 that is not known by its name are those of the median window (of an even number, the lower one of the two in the middle), and with
 `-worst` those of the worst one; they are no percentiles of all messages. Others that are not known are means weighted by messages. The
 place of a limit (at) is that of the window in which it is the greatest; the message of `after` stands behind the file of its window. The
-cells of why are those of the first window, which is named.
-Of waits --worst the messages of the greatest latency of all windows are told, as many as an answer has. Each window begins with no
-message under way, so waits and latencies are less than those of the whole trace (`waff-trace window --help`)."""
+cells of why are those of the first window, which is named. Of waits --worst the messages of the greatest latency of all windows are
+printed, as many as an answer has.
+
+Each window begins with no message under way, so waits and latencies are less than those of the whole trace
+(`waff-trace window --help`)."""
+
+
+class Paragraphs(argparse.HelpFormatter):
+    """A help whose paragraphs stay apart, each in lines as wide as the terminal."""
+
+    def _fill_text(self, text: str, width: int, indent: str) -> str:
+        fill = super()._fill_text
+        return "\n\n".join(fill(it, width, indent) for it in text.split("\n\n"))
 
 
 class Words(ArgumentParser):
     def version(self) -> "Words":
-        """With the words that tell the version."""
-        told = f"{self.prog} {VERSION}"
-        self.add_argument("-V", "--version", action="version", version=told, help="show the version, that of the program, and exit")
+        """With the option that prints the version."""
+        version = f"{self.prog} {VERSION}"
+        self.add_argument("-V", "--version", action="version", version=version, help="show the version, that of the program, and exit")
         return self
 
     def _print_message(self, message: str, file: object = None) -> None:
@@ -83,7 +93,7 @@ class Words(ArgumentParser):
         write_out(message)
 
     def error(self, message: str) -> NoReturn:
-        raise Refusal(2, f"{message} (`{self.prog} --help` tells the words)")
+        raise Refusal(2, f"{message} (`{self.prog} --help` shows the options)")
 
 
 def number(least: int, most: int, what: str) -> Callable[[str], int]:
@@ -120,7 +130,7 @@ def imported(part: ArgumentParser, order: str | None = "none") -> None:
     part.set_defaults(order=order)
     part.add_argument("--tree", metavar="FILE", help="write a hierarchy that accepts the trace to this file")
     part.add_argument(
-        "--map", metavar="FILE", help="write which cells are whose to this file (space, first and last cell, path or device)"
+        "--map", metavar="FILE", help="write which cells belong to which file to this file (space, first and last cell, path or device)"
     )
     part.add_argument(
         "--partial", action="store_true", help="make a trace also where more than one line in ten of a log is not understood"
@@ -141,8 +151,8 @@ def imported(part: ArgumentParser, order: str | None = "none") -> None:
     )
     part.add_argument(
         "--prices", metavar="FILE",
-        help="the table: a CSV file of name,base,per_kib in microseconds, with a row `*` for all other names; without it the installed"
-        " one, which was measured on one machine",
+        help="the table: a CSV file of name,base,per_kib in microseconds, with a row `*` for all other names; by default the"
+        " installed one, which was measured on one machine",
     )
     part.add_argument(
         "--also", action="append", metavar="COST=FILE", default=[],
@@ -169,7 +179,7 @@ def of_clients(part: ArgumentParser, kinds: tuple[str, ...], usual: str, has_lan
     part.add_argument(
         "--trace-version", choices=["2", "3"],
         help="the version of the trace: 3, which has no lists of what messages await, or 2, which has no clients and no ranges (--clients none);"
-        " without it 4 where there is an order between clients, else 3",
+        " by default 4 where there is an order between clients, else 3",
     )
     part.add_argument(
         "--loop", choices=["closed", "open"],
@@ -210,7 +220,7 @@ def of_cells(part: ArgumentParser) -> None:
         "--cell",
         type=number(1, 1 << 50, "number of bytes"),
         metavar="BYTES",
-        help="bytes of a cell; without it 4096, or where that makes more than 262144 cells as --large does",
+        help="bytes of a cell; by default 4096, or where that makes more than 262144 cells as --large does",
     )
     part.add_argument(
         "--stripes", type=number(1, limits.OWNERS, "number"), metavar="N", default=4, help="stripes of the volume or of each device (4)"
@@ -219,7 +229,7 @@ def of_cells(part: ArgumentParser) -> None:
         "--unit",
         type=number(1, limits.LARGE_UNIT, "number"),
         metavar="N",
-        help="cells in a row in one stripe; without it the least power of two from 8 to 32 that holds the largest request",
+        help="cells in a row in one stripe; by default the least power of two from 8 to 32 that holds the largest request",
     )
     part.add_argument(
         "--large",
@@ -246,7 +256,7 @@ def words() -> ArgumentParser:
     def part(name: str, what: str, run: Run, epilog: str | None = None, aliases: tuple[str, ...] = ()) -> ArgumentParser:
         found = parts.add_parser(
             name, aliases=aliases, help=what, description=what[0].upper() + what[1:] + ".", epilog=epilog,
-            formatter_class=argparse.RawDescriptionHelpFormatter,
+            formatter_class=Paragraphs,
         )
         found.set_defaults(run=run)
         return found
@@ -265,7 +275,7 @@ def words_of_logs(part: Callable[..., ArgumentParser]) -> None:
     )
     found.add_argument(
         "--starts", nargs="+", metavar="LOG=SECONDS",
-        help="when the job of a log started, after the first one (startdelay, stonewall); without it all start together",
+        help="when the job of a log started, after the first one (startdelay, stonewall); by default all start together",
     )
     imported(found)
     of_volume(found)
@@ -289,7 +299,7 @@ def words_of_logs(part: Callable[..., ArgumentParser]) -> None:
     for word, to, which in (("--from", "begin", "from then on"), ("--to", "end", "before then")):
         found.add_argument(
             word, metavar="SECONDS|TEXT", dest=to,
-            help=f"take only requests {which}: so many seconds after the first line, or the first line that has this text",
+            help=f"take only requests {which}: a number of seconds after the first line, or the first line that has this text",
         )
     imported(found, None)
     of_volume(found)
@@ -341,7 +351,7 @@ def words_of_traces(part: Callable[..., ArgumentParser]) -> None:
 
     found.add_argument(
         "--most", type=number(1, 1 << 20, "number"), metavar="N",
-        help="with --at-once: so many clients at once at most; a client that began after others had ended comes behind one of them",
+        help="with --at-once: at most N clients at once; a client that began after others had ended comes behind one of them",
     )
 
     what = "a file for each window of a trace, with its releases from 0; prints their names (`windows` is the same)"
@@ -358,7 +368,7 @@ def words_of_traces(part: Callable[..., ArgumentParser]) -> None:
         help="how the files' names begin (window-); a folder, or what ends with `/`, holds the files, and is made if it is not there",
     )
 
-    what = "what `waff sweep`, `limits`, `where`, `waits --worst`, `why` or `rank` told of each window, in one table"
+    what = "what `waff sweep`, `limits`, `where`, `waits --worst`, `why` or `rank` print for each window, in one table"
     found = part("gather", what, later("gathering", "gather"), GATHER_HELP)
     found.add_argument("windows", metavar="WINDOWS", help="what `waff-trace window` printed")
     found.add_argument(
@@ -382,17 +392,17 @@ def words_of_traces(part: Callable[..., ArgumentParser]) -> None:
     found.add_argument(
         "--scale", action="append", metavar="NAME=F", default=[], help="make the costs of messages of this name F times as great (several times)"
     )
-    found.add_argument("--tree", metavar="FILE", help="the hierarchy that the import wrote, whose remarks tell the bytes of a cell and the tick")
+    found.add_argument("--tree", metavar="FILE", help="the hierarchy that the import wrote, whose remarks have the bytes of a cell and the tick")
     found.add_argument("--cell", type=number(1, 1 << 50, "number of bytes"), metavar="BYTES", help="bytes of a cell (that of the tree, or 4096)")
     found.add_argument("--tick", type=tick, metavar="MICROSECONDS", help="microseconds in a tick (that of the tree, or 1)")
 
     found = part("stats", "what a trace has, and how much of it is over the limits of waff", later("counting", "stats"))
     found.add_argument("trace", metavar="TRACE", help="the trace, a CSV file")
 
-    found = part("hot", "which files and names the time of affinities is of", later("hot", "hot"))
+    found = part("hot", "on which files and names affinities spend their time", later("hot", "hot"))
     found.add_argument("hier", metavar="HIER", help="the hierarchy, a TOML file")
     found.add_argument("trace", metavar="TRACE", help="the trace, a CSV file")
-    found.add_argument("--map", metavar="FILE", required=True, help="which cells are whose, as an import of the log wrote it")
+    found.add_argument("--map", metavar="FILE", required=True, help="which cells belong to which file, as an import of the log wrote it")
     found.add_argument("--affinity", metavar="A", nargs="+", help="of these affinities alone")
 
     found = part("plan", "the text of a plan that another scheduler made, for `waff check` and `waff draw`", later("plans", "plan"))
@@ -400,7 +410,7 @@ def words_of_traces(part: Callable[..., ArgumentParser]) -> None:
     found.add_argument("trace", metavar="TRACE", help="the trace, a CSV file")
     found.add_argument("starts", metavar="STARTS", help="lines of a message's number, its start, and its worker if it has one")
     found.add_argument(
-        "--workers", type=number(1, limits.WORKERS, "number"), metavar="K", help="how many workers it is for; without it the greatest worker"
+        "--workers", type=number(1, limits.WORKERS, "number"), metavar="K", help="how many workers it is for; by default the greatest worker"
     )
 
 
