@@ -31,7 +31,8 @@ class Checks(Protocol):
 
 
 class Function:
-    """A function of a crate, with the type or the module that it belongs to, the names of its clauses and the words in them. `said` has for each clause its name, empty where it has none, and its text."""
+    """A function of a crate, with the type or the module that it belongs to, the names of its clauses and the words in them. `said` has for
+    each clause its name, empty where it has none, and its text."""
 
     def __init__(self, name: str, owner: str | None, module: str) -> None:
         self.name = name
