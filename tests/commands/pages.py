@@ -4,7 +4,8 @@ docs/formats.md, and an explanation of a fault has what was found and what is wa
 In a block, a line that begins with `$ ` is a command, and the lines under it, up to a blank one or one that begins with `# `, are
 what it prints; a line `...` stands for lines that are left out. A call of waff has to be a case: the same words (but for
 `examples/`), what lays its files among the commands above it (but for what takes a file that cases share), and the output shown;
-what it prints by `>` to a file is not shown. Each speed-up of the guide's table of locks is one that a case of locks.txt prints. A code span that begins with `waff: ` has to be the standard error of a case, a picture
+what it prints by `>` to a file is not shown. Each speed-up of the guide's table of locks is one that a case of locks.txt prints.
+A code span that begins with `waff: ` has to be the standard error of a case, a picture
 in SVG its standard output (of charts tests/report/run tells), and a block marked `toml` or `csv` a file that cases share.
 """
 

@@ -1,5 +1,8 @@
 """What the sources of the crates have that a page can name."""
 import re
+from collections.abc import Iterator
+from pathlib import Path
+from typing import Protocol
 
 from common import ROOT, printed
 
@@ -21,19 +24,26 @@ FIELD = re.compile(r"^  pub (\w+) :", re.M)
 EQUATION = re.compile(r"^(?:(?:abbrev|unfoldable|record|data|pub) )*([A-Za-z_]\w*)")
 
 
-class Function:
-    """A function of a crate, with the type or the module that it belongs to, the names of its clauses and the words in them. `said` has for each clause its name, empty where it has none, and its text."""
+class Checks(Protocol):
+    """What counts checks."""
 
-    def __init__(self, name, owner, module):
+    def check(self, name: str, good: object) -> None: ...
+
+
+class Function:
+    """A function of a crate, with the type or the module that it belongs to, the names of its clauses and the words in them. `said` has for
+    each clause its name, empty where it has none, and its text."""
+
+    def __init__(self, name: str, owner: str | None, module: str) -> None:
         self.name = name
         self.owner = owner
         self.module = module
         self.is_law = False
-        self.clauses = set()
-        self.words = set()
-        self.said = []
+        self.clauses: set[str] = set()
+        self.words: set[str] = set()
+        self.said: list[tuple[str, str] | None] = []
 
-    def is_named(self, name):
+    def is_named(self, name: str) -> bool:
         """Whether a name stands for it: `call`, `Type::call` or `module::call`."""
         owner, _, call = name.rpartition("::")
         return self.name == call and owner in ("", self.owner, self.module)
@@ -42,7 +52,7 @@ class Function:
 class Crate:
     """A crate with its files, functions, definitions and wrong bodies."""
 
-    def __init__(self, folder, needs):
+    def __init__(self, folder: Path, needs: list[str]) -> None:
         self.name = folder.name
         self.needs = needs
         sources = sorted((folder / "src").glob("*.rt"))
@@ -58,23 +68,27 @@ class Crate:
         self.names |= {path.stem for path in (folder / "proofs").glob("*.antt")}
         self.functions = [f for path in sources for f in functions_of(path.stem, texts[path])]
         # The words that stand in each definition.
-        self.made_of = {}
+        self.made_of: dict[str, set[str]] = {}
         for path in specs:
             for name, words in definitions_of(texts[path]):
                 self.made_of.setdefault(name, set()).update(words)
         self.laws = {f.name for f in self.functions if f.is_law}
 
-    def find(self, name):
+    def find(self, name: str) -> list[Function]:
         """The functions that a name stands for."""
         return [f for f in self.functions if f.is_named(name)]
 
 
-def functions_of(module, text):
+def functions_of(module: str, text: str) -> list[Function]:
     """The functions of a file, as rt fmt lays them out."""
-    owner, has_output, ghosts, found, head = None, False, set(), [], None
+    owner: str | None = None
+    head: str | None = None
+    has_output, ghosts, found = False, set[str](), list[Function]()
     for line in text.splitlines():
         if line.startswith("impl"):
-            owner, has_output, ghosts = IMPL.match(line).group(1), False, set()
+            of = IMPL.match(line)
+            assert of, line
+            owner, has_output, ghosts = of[1], False, set()
         elif line == "}":
             owner, ghosts = None, set()
         has_output = has_output or bool(OUTPUT.match(line))
@@ -100,11 +114,11 @@ def functions_of(module, text):
     return found
 
 
-def words_of(text):
+def words_of(text: str) -> set[str]:
     return set(re.findall(r"\w+", text))
 
 
-def read_clause(function, line):
+def read_clause(function: Function, line: str) -> None:
     """Adds a line of the head of a function to what its clauses say."""
     begun = ENSURES.match(line)
     if begun:
@@ -116,13 +130,13 @@ def read_clause(function, line):
         function.said[-1] = (name, f"{text}\n{line}")
 
 
-def definitions_of(text):
+def definitions_of(text: str) -> Iterator[tuple[str, set[str]]]:
     """The definitions of a file, line by line, each with the imported and own names that stand in it."""
     lines = [line for line in text.splitlines() if line.strip() and not line.startswith("--")]
     imported = [line for line in lines if line.startswith(("use ", "pub use "))]
     said = [line for line in lines if line not in imported]
     known = words_of(" ".join(imported)) | {it.group(1) for it in map(EQUATION.match, said) if it}
-    name = None
+    name: str | None = None
     for line in said:
         begun = EQUATION.match(line)
         name = begun.group(1) if begun else name
@@ -130,14 +144,14 @@ def definitions_of(text):
             yield name, words_of(line) & known
 
 
-def fields_of(text):
+def fields_of(text: str) -> dict[str, set[str]]:
     """The fields of each record of a file of definitions."""
     return {name: set(FIELD.findall(body)) for name, body in RECORD.findall(text)}
 
 
-def crates():
+def crates() -> dict[str, Crate]:
     """All crates by name, in the order of crates.txt."""
-    found = {}
+    found: dict[str, Crate] = {}
     for line in printed("dist/crates", "all").splitlines():
         head, _, needs = line.partition(":")
         name = head.split()[0]

@@ -55,7 +55,8 @@ class World:
     def lock_between(self, one: int, other: int) -> Cell | None:
         """The first cell whose lock both use, and one of them alone."""
         first, second = self.locks[one], self.locks[other]
-        return min((it for it in first if it in second and (first[it] or second[it])), key=self.place, default=None)
+        shared = [it for it in first if it in second and (first[it] or second[it])]
+        return min(shared, key=self.place) if shared else None
 
     def waits_by(self, one: int, other: int) -> Cell | None:
         """The cell by whose lock two messages exclude each other; None where they do by their affinities."""

@@ -53,8 +53,9 @@ def holding(dice: random.Random) -> Holding:
         space = dice.choice(["own", "free"])
         at = (f"own.{number // TOGETHER}", number % TOGETHER) if space == "own" else ("free.0", number)
         some = f"some:{dice.randrange(3)}"
-        uses = dice.choice([[], [f"read {some}"], [f"read {some}"], [f"read {some}"], [f"set {some} 7"], [f"copy one:0 {some}"]])
-        uses += dice.choice([[], [], [f"set one:{dice.randrange(6)} 5"], [f"read one:{dice.randrange(6)}"]])
+        none: list[str] = []
+        uses = [*dice.choice([none, [f"read {some}"], [f"read {some}"], [f"read {some}"], [f"set {some} 7"], [f"copy one:0 {some}"]])]
+        uses += dice.choice([none, none, [f"set one:{dice.randrange(6)} 5"], [f"read one:{dice.randrange(6)}"]])
         uses += ["read all:0"] * (dice.random() < 0.06)
         dice.shuffle(uses)
         mark = f"{space}:{number}"

@@ -6,8 +6,9 @@ import signal
 import subprocess
 import tempfile
 import time
-from collections.abc import Callable, Iterator
+from collections.abc import Callable, Iterator, Mapping
 from pathlib import Path
+from typing import IO
 
 from common import Count
 from hierarchies import hierarchy
@@ -50,9 +51,12 @@ class Room:
     def command(self, *words: str, hier: str = "hier.toml", trace: str = "trace.csv", disk: str = "disk") -> list[str]:
         return [self.waff, "run", hier, trace, disk, *words]
 
-    def run(self, *words: str, hier: str = "hier.toml", trace: str = "trace.csv", disk: str = "disk", **more: object) -> subprocess.CompletedProcess[str]:
+    def run(
+        self, *words: str, hier: str = "hier.toml", trace: str = "trace.csv", disk: str = "disk", stdin: IO[str] | None = None,
+        env: Mapping[str, str] | None = None, preexec_fn: Callable[[], None] | None = None,
+    ) -> subprocess.CompletedProcess[str]:
         command = self.command(*words, hier=hier, trace=trace, disk=disk)
-        return subprocess.run(command, cwd=self.folder, capture_output=True, text=True, timeout=60, **more)
+        return subprocess.run(command, cwd=self.folder, capture_output=True, text=True, timeout=60, stdin=stdin, env=env, preexec_fn=preexec_fn)
 
     def timed(self, *words: str) -> tuple[subprocess.CompletedProcess[str], float]:
         """A run and how many seconds it took; of another one where a message took too long on a machine that has other work."""

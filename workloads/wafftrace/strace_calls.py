@@ -15,6 +15,8 @@ from .strace_requests import CALLS, Requests
 FLAGS_WANTED = "strace -f -ttt -T -o LOG"
 # Calls that show what a file is, and how they show a named pipe.
 NODES = frozenset(("mknod", "mknodat", "stat", "lstat", "fstat", "fstat64", "newfstatat", "statx"))
+# How a call ends in which strace leaves a process.
+DETACHED = "<detached ...>"
 FIFO = re.compile(r'(?:_mode=|", )S_IFIFO')
 
 
@@ -132,7 +134,9 @@ class Calls:
         name, bracket, args = rest.partition("(")
         args, tail = parted(args) if bracket else ("", None)
         if tail is None:
-            return False
+            is_left = rest.endswith(DETACHED)
+            self.log.without["calls that did not return"] += is_left
+            return is_left
         result, path, behind, seconds, digits = tail.groups()
         took = nanoseconds(seconds, digits) if digits else None
         if self.order is None:

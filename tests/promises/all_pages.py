@@ -18,9 +18,14 @@ import functools
 import itertools
 import os
 import re
+from collections.abc import Iterator
+from pathlib import Path
 
-from sources import DEFINITION, NAME, ROOT, TOKEN, TYPE, fields_of, functions_of, words_of
+from common import ROOT
+from sources import DEFINITION, NAME, TOKEN, TYPE, Checks, Crate, Function, fields_of, functions_of, words_of
 
+# Crates by name.
+Crates = dict[str, Crate]
 CRATES = ROOT / "crates.txt"
 ARCHITECTURE = ROOT / "docs" / "architecture.md"
 LINK = re.compile(r"\[((?:[^\[\]]|\[[^\[\]]*\]\([^()]*\))*)\]\(([^()\s]+)\)")
@@ -36,12 +41,13 @@ HEADER = ["| Layer | Crate | What it is for | Stands on |", "|---|---|---|---|"]
 class Page:
     """A page: its lines out of blocks of code, and the blocks."""
 
-    def __init__(self, path):
+    def __init__(self, path: Path) -> None:
         self.path = path
         self.name = str(path.relative_to(ROOT))
-        self.lines = []
-        self.blocks = []
-        block = None
+        self.lines: list[tuple[int, str]] = []
+        # Of each block its line, its language and its lines.
+        self.blocks: list[tuple[int, str, list[str]]] = []
+        block: tuple[int, str, list[str]] | None = None
         for number, line in enumerate(path.read_text().splitlines(), 1):
             if line.lstrip().startswith("```"):
                 if block is None:
@@ -54,11 +60,11 @@ class Page:
             else:
                 self.lines.append((number, line))
 
-    def headings(self):
+    def headings(self) -> set[str]:
         return {anchor(line.lstrip("#")) for _, line in self.lines if line.startswith("#")}
 
 
-def anchor(heading):
+def anchor(heading: str) -> str:
     """The name by which a link leads to a heading."""
     return re.sub(r"[^\w\- ]", "", LINK.sub(r"\1", heading).strip().lower()).replace(" ", "-")
 
@@ -66,14 +72,14 @@ def anchor(heading):
 class Reader:
     """Reads pages, and counts what it finds and what it misses."""
 
-    def __init__(self, crates, count):
+    def __init__(self, crates: Crates, count: Checks) -> None:
         self.crates = crates
         self.count = count
 
-    def tell(self, is_there, where, what):
+    def tell(self, is_there: object, where: str, what: str) -> None:
         self.count.check(f"{where}: {what}", is_there)
 
-    def read_page(self, page):
+    def read_page(self, page: Page) -> None:
         for number, line in page.lines:
             where = f"{page.name}:{number}"
             for text, target in LINK.findall(line):
@@ -88,7 +94,7 @@ class Reader:
             elif language == "tree":
                 self.read_tree(f"{page.name}:{number}", lines)
 
-    def read_link(self, page, where, text, target):
+    def read_link(self, page: Page, where: str, text: str, target: str) -> None:
         if re.match(r"https?://", target):
             return
         name, _, heading = target.partition("#")
@@ -102,7 +108,7 @@ class Reader:
         if spans and path.is_file() and path.is_relative_to(ROOT / "crates"):
             self.read_names(where, spans, path)
 
-    def read_names(self, where, spans, path):
+    def read_names(self, where: str, spans: list[str], path: Path) -> None:
         """The first name is of something in the file, those behind it are its clauses or fields."""
         first, *parts = spans
         inside = path.relative_to(ROOT / "crates")
@@ -121,7 +127,7 @@ class Reader:
             for part in parts:
                 self.tell(any(part in f.clauses for f in found), where, f"no clause {part} of {first} in {inside}")
 
-    def read_path(self, where, span):
+    def read_path(self, where: str, span: str) -> None:
         path = span.split()[0].removeprefix("./").rstrip(",/") if span.strip() else ""
         folder = path.partition("/")[0]
         if folder in self.crates:
@@ -131,14 +137,14 @@ class Reader:
         if "/" in path and not re.search(r"NAME|THING|Thing", path):
             self.tell(any(ROOT.glob(path)), where, f"no file {path}")
 
-    def read_tree(self, where, lines):
+    def read_tree(self, where: str, lines: list[str]) -> None:
         crates = self.crates.values()
         for line in filter(None, lines):
             for name in line.lstrip("│├└─ ").partition("  ")[0].split(", "):
                 is_there = any(crate.find(name) or name in crate.types for crate in crates)
                 self.tell(is_there, where, f"no function {name}")
 
-    def read_proof(self, page):
+    def read_proof(self, page: Page) -> None:
         """Each name in words stands somewhere in the sources."""
         known = set().union(*(crate.names for crate in self.crates.values()), self.crates, kit_crates(self.crates))
         for number, line in page.lines:
@@ -149,9 +155,9 @@ class Reader:
         for name in kit_crates(self.crates):
             self.tell(name in named, page.name, f"the crate {name} of the kit is not named")
 
-    def read_theorems(self, page):
+    def read_theorems(self, page: Page) -> None:
         """The clauses of each row are made of its definitions."""
-        made_of = {}
+        made_of: dict[str, set[str]] = {}
         for crate in self.crates.values():
             for name, words in crate.made_of.items():
                 made_of.setdefault(name, set()).update(words)
@@ -159,23 +165,23 @@ class Reader:
             said = set().union(*(clause_words(page, *link) for link in LINK.findall(row[0])))
             known = reached(said, made_of)
             for text, target in LINK.findall(row[1]):
-                name = TOKEN.findall(text)[:1]
+                first = TOKEN.findall(text)[:1]
                 if target.endswith(".antt") and said:
-                    self.tell(set(name) <= known, f"{page.name}:{number}", f"the clauses are not made of {name}")
+                    self.tell(set(first) <= known, f"{page.name}:{number}", f"the clauses are not made of {first}")
 
-    def read_scripts(self, page):
+    def read_scripts(self, page: Page) -> None:
         """Each script of the repository stands on the page."""
         named = {span.split()[0].removeprefix("./") for _, line in page.lines for span in TOKEN.findall(line) if span.strip()}
         for path in scripts():
             self.tell(path in named, page.name, f"the script {path} is not named")
 
-    def read_crates(self, page):
+    def read_crates(self, page: Page) -> None:
         shown = [line for _, line in page.lines if line.startswith("|")]
         for line in HEADER + crate_rows():
             self.tell(line in shown, page.name, f"no line {line[:60]}.. (tests/promises/run write)")
         self.tell(crate_lines() == CRATES.read_text().splitlines(), CRATES.name, "other words (tests/promises/run write)")
 
-    def read_decisions(self, page):
+    def read_decisions(self, page: Page) -> None:
         head, *parts = re.split(r"^(?=##+ )", page.path.read_text(), flags=re.M)
         sections = []
         for part in parts:
@@ -190,9 +196,9 @@ class Reader:
         named = [link for link in LINK.findall(head) if link[1].startswith("#")]
         self.tell(named == sections, page.name, f"its first lines name {named} where {sections} stand")
 
-    def read_runs(self, guide, results):
+    def read_runs(self, guide: Page, results: Page) -> None:
         """The rows of both pages: for each log what was told and what ran, under the first tree and under the searched one."""
-        told = {}
+        told: dict[str, list[str]] = {}
         for log, _, _, workers, by_log, _, ran in rows_of(results, "log"):
             if workers == "4":
                 told.setdefault(log, []).extend([by_log, ran.split()[0]])
@@ -200,12 +206,13 @@ class Reader:
             shown = {log: figures for log, *figures in rows_of(page, "Work")}
             self.tell(shown == told, page.name, f"its figures of runs are not those of the logs in {results.name}: {told}")
 
-    def read_logic(self):
-        logic = re.search(r"^logic: (\w+)$", (ROOT / "crates/waff/src/version.rt").read_text(), re.M)[1]
-        self.tell(f"`{logic}`" in (ROOT / "README.md").read_text(), "README.md", f"the logic {logic} is not named")
+    def read_logic(self) -> None:
+        logic = re.search(r"^logic: (\w+)$", (ROOT / "crates/waff/src/version.rt").read_text(), re.M)
+        assert logic
+        self.tell(f"`{logic[1]}`" in (ROOT / "README.md").read_text(), "README.md", f"the logic {logic[1]} is not named")
 
 
-def theorems_of(page):
+def theorems_of(page: Page) -> Iterator[tuple[int, list[str]]]:
     """The rows of the tables of theorems: the line, and the cells of the clauses and of the definitions."""
     columns = []
     for number, line in page.lines:
@@ -217,7 +224,7 @@ def theorems_of(page):
             yield number, [cells[at] for at in columns]
 
 
-def clause_words(page, text, target):
+def clause_words(page: Page, text: str, target: str) -> set[str]:
     """The words of the clauses that a link names, of all where it names none, and of the file where it is no function's."""
     path = (page.path.parent / target).resolve()
     if path.suffix != ".rt":
@@ -228,7 +235,7 @@ def clause_words(page, text, target):
     return words_of(" ".join(text for _, text in said) if said else path.read_text())
 
 
-def reached(words, made_of):
+def reached(words: set[str], made_of: dict[str, set[str]]) -> set[str]:
     """These words, and those that the definitions among them are made of."""
     known, left = set(), set(words)
     while left:
@@ -238,12 +245,12 @@ def reached(words, made_of):
 
 
 @functools.cache
-def functions_in(path):
+def functions_in(path: Path) -> list[Function]:
     """The functions of a source."""
     return list(functions_of(path.stem, path.read_text()))
 
 
-def is_quoted(lines, sources):
+def is_quoted(lines: list[str], sources: str) -> bool:
     """Whether one of the sources has each part of the block, but for blanks."""
     parts = [" ".join(part.split()) for part in re.split(r"^ *\.\.\.$", "\n".join(lines), flags=re.M)]
     for path in (ROOT / "crates").glob(sources):
@@ -253,7 +260,7 @@ def is_quoted(lines, sources):
     return False
 
 
-def scripts():
+def scripts() -> list[str]:
     """What can be run here, but for the built program."""
     found = [ROOT / name for name in ("waff", "install", "test", ".ci/run")]
     for folder in ("bench", "dist", "examples", "tests", "workloads"):
@@ -261,7 +268,7 @@ def scripts():
     return [str(path.relative_to(ROOT)) for path in found if path != ROOT / "dist" / "waff"]
 
 
-def first_sentence(crate):
+def first_sentence(crate: str) -> str:
     """What a crate says of itself first."""
     source = ROOT / "crates" / crate / "src"
     path = source / "lib.rt" if (source / "lib.rt").exists() else source / "main.rt"
@@ -273,7 +280,7 @@ def first_sentence(crate):
     return " ".join(lines).split(". ")[0].rstrip(".")
 
 
-def crate_rows():
+def crate_rows() -> list[str]:
     """The rows of the table of crates, in the order of crates.txt."""
     rows, layer = [], ""
     for line in CRATES.read_text().splitlines():
@@ -287,7 +294,7 @@ def crate_rows():
     return rows
 
 
-def crate_lines():
+def crate_lines() -> list[str]:
     """The lines of crates.txt, where each crate stands below what it says of itself first."""
     lines = []
     for number, line in enumerate(CRATES.read_text().splitlines()):
@@ -299,12 +306,12 @@ def crate_lines():
     return lines
 
 
-def kit_crates(crates):
+def kit_crates(crates: Crates) -> list[str]:
     """The crates of the kit that the crates stand on."""
     return sorted({need for crate in crates.values() for need in crate.needs} - crates.keys())
 
 
-def write_crates():
+def write_crates() -> None:
     """Writes the words of crates.txt and the table of crates anew."""
     CRATES.write_text("\n".join(crate_lines()) + "\n")
     lines = ARCHITECTURE.read_text().splitlines()
@@ -315,14 +322,14 @@ def write_crates():
     ARCHITECTURE.write_text("\n".join(lines[:start] + HEADER + crate_rows() + lines[end:]) + "\n")
 
 
-def rows_of(page, first):
+def rows_of(page: Page, first: str) -> list[list[str]]:
     """The rows of the table of a page whose first column is called so."""
-    lines = [[cell.strip() for cell in line.strip("|").split("|")] if line.startswith("|") else None for _, line in page.lines]
+    lines = [[cell.strip() for cell in line.strip("|").split("|")] if line.startswith("|") else [] for _, line in page.lines]
     begin = next(at for at, cells in enumerate(lines) if cells and cells[0] == first)
     return list(itertools.takewhile(bool, lines[begin + 2 :]))
 
 
-def read(crates, count):
+def read(crates: Crates, count: Checks) -> None:
     """Reads all pages, and counts the names and links that it finds and those that it misses."""
     reader = Reader(crates, count)
     paths = [*ROOT.glob("*.md"), *(path for folder in FOLDERS for path in (ROOT / folder).glob("*.md"))]
