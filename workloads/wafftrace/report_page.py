@@ -391,7 +391,7 @@ class Page:
             parts.append(f"<div>{self.heading(under)}<figure>{panned}</figure>{figures}</div>")
             commands.append(under.picture)
         intro = (
-            "<p>A lane is an affinity, and below these a worker. A bar is a message from its start to its finish. Orange is the chain: each"
+            "<p>A lane is an affinity, and below these a worker. A bar is a message from its start to its finish. The thick outline is the chain: each"
             " of its bars waits for the one before, which makes the plan as long as it is."
             + (" All pictures show the same ticks.</p>" if len(parts) > 1 else "</p>")
             + '<p class="narrow">In a narrow window the picture moves sideways.</p>'

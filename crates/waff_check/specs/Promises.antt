@@ -48,7 +48,7 @@ ServesAlike claim other =
     ServesAs claim.instance.tree claim.instance.assigned (work_of_claim claim) (start_in claim) other
 
 -- within a bound for k workers, by this chain: so within twice the length of every worker plan for
--- k that serves in the same order, and within 2k - 1 parts of k where all releases are 0
+-- k that serves in the same order, and within 2k - 1 parts of k where no message has a release, a think time or a gap
 pub record IsWithin (claim : Claim) (k : ℕ) : Type 0 where
   pub workers : workers_in claim ≡ Some k
   pub bound : IsWithinBound (work_of_claim claim) k (start_in claim) (chain_in claim)

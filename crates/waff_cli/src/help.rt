@@ -43,7 +43,7 @@ fn push_row(
 }
 
 /// What stands below the groups in the short help.
-const SHORT: &str = "\n\nWithout words: the plan of what standard input holds.";
+const SHORT: &str = "\n\nWithout arguments: the plan of what standard input holds.";
 
 /// What stands below the groups in the long help.
 const LONG: &str = "
@@ -54,19 +54,19 @@ prints. One of them may be -, standard input.
 
 A trace with clients has the header message,cost,release,client,think,ops. A
 client issues a message at its release, but no sooner than the think time after
-its last one has finished; its first one, as each of no client (-), no sooner
-than at the think time. What is issued first is served first. With the header
+its last one has finished. Its first one, and each of no client (-), is issued
+no sooner than at the think time. What is issued first is served first. With the header
 message,cost,release,client,think,after,ops a message may await earlier ones
 besides: where after is 3 7+20, it is issued when message 3 has finished, and no
 sooner than 20 ticks after 7 has.
 
-Without words waff reads standard input, a hierarchy, a line ---, and a trace,
-and prints the plan of both.";
+Without arguments waff reads standard input, a hierarchy, a line ---, and a
+trace, and prints the plan of both.";
 
 /// What the rules are, and when which is better.
 pub const RULE: &str = "\
-Which ready messages start first: by arrival those that arrived first,
-by longest those on which the longest chain of work hangs, with
-clients that of their own client. Without --rule it is arrival.
-Longest usually gives the shorter plan; where requests arrive over
-time it may raise the greatest latencies";
+Which ready message starts first: by arrival, the default, the one
+that arrived first; by longest the one with the longest chain of
+messages behind it, each of which excludes the one before (with
+clients: awaits it). Longest usually gives the shorter plan; where
+requests arrive over time it may raise the greatest latencies";

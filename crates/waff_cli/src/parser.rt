@@ -102,7 +102,7 @@ fn arg<'a>(alloc: Global, word: Word) -> Arg<'a> {
         Word::Shared => flag(
             alloc,
             "shared",
-            "Locks that messages share which only read the cell",
+            "Locks that messages which only read a cell share",
         ),
         Word::Steps => steps(alloc),
         Word::Run(word) => run_arg(alloc, word),
@@ -241,7 +241,7 @@ fn worst<'a>(alloc: Global) -> Arg<'a> {
     option(
         alloc,
         "worst",
-        "So many messages of the greatest latency; not with --names",
+        "The N messages of the greatest latency; not with --names",
     )
     .value_name("N")
     .value_parser(value_parser!(u32).range(1..=i64::from(MAX_WORST)))
@@ -252,7 +252,7 @@ fn steps<'a>(alloc: Global) -> Arg<'a> {
     option(
         alloc,
         "steps",
-        "So many spaces at most, 0 to 256 [default: 8]",
+        "At most N spaces one after another, 0 to 256 [default: 8]",
     )
     .value_name("N")
     .value_parser(value_parser!(u32).range(0..=i64::from(MAX_STEPS)))
@@ -260,7 +260,7 @@ fn steps<'a>(alloc: Global) -> Arg<'a> {
 
 /// Which of the messages that are ready start first.
 fn rule<'a>(alloc: Global) -> Arg<'a> {
-    option(alloc, "rule", "Who starts first")
+    option(alloc, "rule", "Which ready message starts first (arrival)")
         .value_name("RULE")
         .value_parser(RULES.as_slice())
         .default_value("arrival")

@@ -142,13 +142,13 @@ const SWEEP: CommandWords = CommandWords {
         "\
 Example: waff sweep hier.toml trace.csv --workers 2,4,8
 
-A line for each number of workers (without --workers 1, 2, 3, 4, 6, 8, 12, 16,
-24, 32, 48 and 64), and one for any number:
+A line for each number of workers (by default 1, 2, 3, 4, 6, 8, 12, 16, 24, 32,
+48 and 64), and one for any number:
   workers   how many; - for any number
   length    the length of the plan in ticks
   speedup   the total cost / the length
   busy      the part of the workers' time that is work
-  least     no plan for so many workers is shorter than this
+  least     no plan for as many workers is shorter than this
   over      the length / least, rounded up
   waits     the ticks that messages wait in all
   mean      the mean latency, from a release to the finish
@@ -183,6 +183,8 @@ A line for each limit, work and plan for each number of workers:
            the longest one that only reads it
   data     the greatest cost of messages that touch a common cell
   tree     the greatest cost of messages at or above a common affinity
+  locks    of a hierarchy with locks: the greatest cost of messages that need
+           one lock one after another
   order    the length of the plan without a limit on workers
   plan     the length of the plan for K workers
 Its columns:
@@ -192,12 +194,11 @@ Its columns:
   speedup  the total / the length
   at       the client, the message, the cell or the affinity that limits so; -
            for none
-Whatever the order of service, no plan is shorter than work, clients, after,
-writes, data and tree, and writes and data limit so under every tree of these
-spaces. If data is more than writes, readers of one cell would do better if they
-shared it.
-In arrival order none is shorter than order; where the trace has clients none
-that serves the messages as the plan without a limit on workers does."
+In any service order no plan is shorter than the lines above order. No tree of
+these spaces goes below writes, and none without further shared locks below
+data: if data is more than writes, readers of one cell should share it.
+In arrival order no plan is shorter than order. Where the trace has clients, no
+plan is that keeps the service order of the plan without a limit on workers."
     ),
 };
 
@@ -213,7 +214,8 @@ Example: waff assign hier.toml trace.csv
 A line for each message:
   message   its number, from 1
   name      its name
-  affinity  the lowest that is at or above the owners of all its cells"
+  affinity  the lowest that is at or above the owners of all its cells without
+            locks; - for none"
     ),
 };
 
@@ -265,9 +267,9 @@ One line. A fault of the plan:
                the gap behind that has passed
 No fault:
   shortest     no plan in arrival order is shorter; where the trace has clients,
-               no plan for so many workers, in any order
+               no plan for as many workers, in any order
   tight        no plan is shorter that serves the messages in the same order
-  withinbound  at most twice as long as any plan for so many workers in arrival
+  withinbound  at most twice as long as any plan for as many workers in arrival
                order; where the trace has clients, as any that serves in the
                same order
   obeys        nothing more is known
@@ -302,7 +304,7 @@ A line each:
   length    the last finish
   speedup   the total / the length
   busy      the part of the workers' time that is work
-  least     no plan for so many workers is shorter than this
+  least     no plan for as many workers is shorter than this
   over      the length / least, rounded up
   waits     the ticks that messages wait in all
   mean      the mean latency, from a release to the finish
@@ -373,7 +375,7 @@ With --names a line for each name of messages:
 With --clients a line for each client, with the same columns:
   client    the client; - for messages of none
 With --figures six columns more, of that plan and the messages of the line:
-  running   their cost / the length: how many run at once in the mean, where
+  running   their cost / the length: how many run at once on average, where
             busy of waff sweep is a share of the workers
   waits     the ticks from their issues to their starts
   mean, p50, p99, latency  of their latencies, as in waff sweep
@@ -417,8 +419,7 @@ With --worst a line for each of N messages, that of the greatest latency first:
   issue    the tick at which it is issued, without clients its release
   ready    the tick from which it waits for a worker alone
   start, finish, latency  of the plan; the latency is the finish - the issue
-  for, forname, foraffinity  the message for which it waits till it is ready; -
-           for none
+  for, forname, foraffinity  what it waits for until it is ready; - for none
   by       under locks alone: the cell whose lock it waits for; - as above"
     ),
 };
@@ -476,8 +477,8 @@ shortest, even where that gains nothing: two may gain only together. No step is
 promised to be the best choice in the end. N bounds the time, which grows with
 spaces times N. Its columns:
   what      as it is, one, then or all
-  space     the one that gets locks, exclusive ones, or with --shared such that
-            messages share which only read the cell; -
+  space     the one that gets locks: exclusive ones, or with --shared such as
+            messages that only read a cell share; - for none or all
   tree      the greatest cost of messages at or above a common affinity
   locks     the greatest cost of messages that need one lock one after another
   order     the length of the plan without a limit on workers
@@ -521,7 +522,7 @@ A line for each hierarchy:
   left, right  the two sides of that plan's bound
 Then:
   refines      yes where no two messages exclude each other under the
-               hierarchical one alone, else no"
+               hierarchical one alone, else no; - where one of them has locks"
     ),
 };
 
@@ -641,8 +642,7 @@ The line that the other commands print, then:
   message  each message that a verdict names, where the trace has clients with
            its client, think time and issue, and with those that it awaits
   found    what stands there
-  why      of an overlap: the way in the tree from the lower affinity to the
-           other
+  why      of an overlap: by what the two messages exclude each other
   wanted   what should stand there",
         "\
 Exit status, that of the fault or the verdict:

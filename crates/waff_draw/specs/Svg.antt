@@ -23,7 +23,7 @@ use Rattle.waff_draw.specs.declared.pieces.TheConstants.{STYLE}
 -- what the bars are
 abbrev pub legend : List ℕ
 legend = codes "<text x='8' y='48'>A bar is a message from its start to its finish, in the colour of its "
-    ++ codes "name, or grey. Orange is the plan's chain, outlined run by run; a narrow run is as high as its "
+    ++ codes "name, or grey. The plan's chain is outlined run by run; a narrow run is orange, as high as its "
     ++ codes "lane.</text>\n"
 
 -- how large the document is: right of the lanes and below them is room for numbers of ticks

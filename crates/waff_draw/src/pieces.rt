@@ -20,7 +20,7 @@ pub(crate) const STYLE: &str = "\
 .n3{fill:#cc79a7}.n4{fill:#f0e442}.n5{fill:#0072b2}.n6{fill:#8c564b}.n7{fill:#882255}\
 .n8{fill:#999933}.n9{fill:#7b6fd0}.n10{fill:#88d8b0}.n11{fill:#cc6677}.n12{fill:#aa4499}\
 .n13{fill:#5b8c2a}.n14{fill:#ddcc77}.n15{fill:#a8c8f0}.n16{fill:#f4b6c2}.plan .thin{stroke:none}\
-.plan .chain{fill:#e69f00}.plan .run{fill:none;stroke:#000;stroke-width:200;pointer-events:none}\
+.plan .run{fill:none;stroke:#000;stroke-width:200;pointer-events:none}\
 .plan .run.thin{fill:#e69f00;stroke:none}.plan path{stroke:#c8ccd2;stroke-width:100}\
 @media(prefers-color-scheme:dark){svg{background:#16181c}text{fill:#e8e8e8}.ground{fill:#16181c}\
 .lane rect{fill:#16181c}.lane:nth-child(even) rect{fill:#22262c}.rule{stroke:#e8e8e8}\
@@ -29,7 +29,7 @@ pub(crate) const STYLE: &str = "\
 /// What the bars are.
 pub(crate) const LEGEND: &str = "\
 <text x='8' y='48'>A bar is a message from its start to its finish, in the colour of its name, or \
-grey. Orange is the plan's chain, outlined run by run; a narrow run is as high as its lane.</text>\n";
+grey. The plan's chain is outlined run by run; a narrow run is orange, as high as its lane.</text>\n";
 
 /// Appends the end of the lanes, of the axis, or of the bars.
 pub(crate) fn push_group_end(text: &mut String) -> Result<(), AllocError>

@@ -20,7 +20,7 @@
 //! The plan for k workers follows the list rule over the paths through its needs, which is the same
 //! as over the ordered pairs. It is within the bound of its printed chain, so at most twice as long
 //! as any plan for k workers that serves messages in the same order, and 2 - 1/k times where no message
-//! has a release or awaits another with a gap. Other needs with the same paths make the same plans.
+//! has a release, a think time or a gap. Other needs with the same paths make the same plans.
 //!
 //! Tests: `test_worked/src/worker_plans.rt`, by both rules; `test_slow/src/compared_plans.rt`
 //! compares the starts, the workers and the order by both rules with a plain slow program, and sees

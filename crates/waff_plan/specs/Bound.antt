@@ -31,7 +31,7 @@ IsWithinTwice before work k start =
     (other : ℕ → ℕ) → IsWorkerPlan before work k other
     → left_side work k start ≤ 2 * k * length_of work other
 
--- and at most 2 - 1/k times as long where no message has a release or awaits another with a gap
+-- and at most 2 - 1/k times as long where no message has a release, a think time or a gap
 abbrev pub IsWithinRatio : Relation → Work → ℕ → (ℕ → ℕ) → Type 0
 IsWithinRatio before work k start =
     ((m : ℕ) → IsNumber work m → work.floor m ≡ 0)
