@@ -1,10 +1,17 @@
-"""Long logs of each kind."""
+"""Long logs of each kind, and logs of which little is kept."""
 
+import os
+import pathlib
 import random
+import subprocess
 from collections.abc import Iterator
+
+from calling import TOOL, check
 
 # So many lines has each.
 LINES = 100000
+# A log of which little is kept has so many requests, and of two such logs the peaks of memory may differ by so many KiB.
+KEPT, MORE = 20, 6 << 10
 
 
 def long_logs() -> Iterator[tuple[list[str], list[str]]]:
@@ -38,3 +45,31 @@ def long_logs() -> Iterator[tuple[list[str], list[str]]]:
         kind, offset = dice.choice(["Read", "Write"]), dice.randrange(10**6) * 4096
         lines.append(f"{128166372003061629 + n * 900},src1,{n % 2},{kind},{offset},8192,{dice.randrange(9000)}")
     yield ["msr", "-"], lines
+
+
+def idle_log(path: pathlib.Path, idle: int) -> None:
+    """A log of few requests, each behind so many calls that ask for no data of files."""
+    with open(path, "w") as file:
+        for n in range(KEPT * (idle + 1)):
+            at = 10**9 + n * 50
+            moment = f"7 {at // 10**6}.{at % 10**6:06}"
+            if n % (idle + 1):
+                file.write(f"{moment} mmap(NULL, {n * 4096}, PROT_READ|PROT_WRITE, MAP_PRIVATE|MAP_ANONYMOUS, -1, 0) = {n * 4096:#x} <0.000003>\n")
+            else:
+                file.write(f'{moment} pwrite64(3</srv/a>, "abc"..., 8192, {n % 64 * 4096}) = 8192 <0.000034>\n')
+
+
+def lean(scratch: pathlib.Path) -> None:
+    """What is not kept of a log takes no memory: one that is a hundred times as long, with as many requests, has the same peak."""
+    for order in ("all", "none"):
+        peaks = []
+        for idle in (50, 5000):
+            idle_log(scratch / "idle.strace", idle)
+            with open(scratch / "idle.csv", "w") as out:
+                words: list[str | pathlib.Path] = [TOOL, "strace", scratch / "idle.strace", "--order", order, "--tree", scratch / "idle.toml"]
+                process = subprocess.Popen(words, stdin=subprocess.DEVNULL, stdout=out, stderr=subprocess.DEVNULL)
+                _, status, used = os.wait4(process.pid, 0)
+                process.returncode = os.waitstatus_to_exitcode(status)
+            check(f"--order {order}, {idle} idle calls to one: kept", process.returncode == 0 and len((scratch / "idle.csv").read_text().splitlines()) > KEPT)
+            peaks.append(used.ru_maxrss)
+        check(f"--order {order}: memory of a long log", peaks[1] < peaks[0] + MORE, peaks)

@@ -119,14 +119,14 @@ class Frontiers:
 
     def issue(self, thread: Thread, numbers: range) -> None:
         """The requests of a call of this thread: the first waits for what the thread comes after, the others for the one before."""
-        for number in numbers:
+        number = numbers.start
+        self.whose[number] = thread.name
+        self.first(thread, number)
+        for number in numbers[1:]:
             self.whose[number] = thread.name
-            if number == numbers.start:
-                self.first(thread, number)
-            else:
-                self.least[number] = self.least[number - 1]
-                self.note(thread.name, number, (number - 1, 0))
-        thread.own = {thread.name: [(numbers[-1], -thread.clock)]}
+            self.least[number] = self.least[number - 1]
+            self.note(thread.name, number, (number - 1, 0))
+        thread.own = {thread.name: [(number, -thread.clock)]}
         thread.why.clear()
 
     def first(self, thread: Thread, number: int) -> None:
@@ -138,15 +138,20 @@ class Frontiers:
             if client == name:
                 every = every[:-1]
             if client != START:
-                others += [(client, it, max(0, clock + gap)) for it, gap in every]
+                for it, gap in every:
+                    others.append((client, it, clock + gap if clock + gap > 0 else 0))
         self.raw += len(others)
         found = self.reduced(name, own, others) if others else []
-        self.after[number] = [(it, gap, thread.why[it]) for it, gap in found]
+        if found:
+            self.after[number] = [(it, gap, thread.why[it]) for it, gap in found]
+        least = 0
         if own is not None:
             self.thinks[number] = own[1]
+            least = self.least[own[0]] + own[1]
         self.note(name, number, own)
-        behind = found + ([own] if own is not None else [])
-        least = max((self.least[it] + gap for it, gap in behind), default=0)
+        for it, gap in found:
+            if self.least[it] + gap > least:
+                least = self.least[it] + gap
         begun = thread.own.get(START)
         if begun is not None and clock + begun[0][1] > least:
             self.releases[number] = least = clock + begun[0][1]

@@ -28,6 +28,8 @@ class Range(NamedTuple):
             yield Range(max(self.first, other.end), self.end)
 
     def meets(self, other: "Range") -> "Range | None":
+        if self == other:
+            return self
         first, end = max(self.first, other.first), min(self.end, other.end)
         return Range(first, end) if first < end else None
 

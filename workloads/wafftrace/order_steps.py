@@ -24,7 +24,7 @@ OTHERS = frozenset((
 CALLS = READS | WRITES | POLLS | SLEEPS | WAITS | KILLS | FORKS | EXITS | OTHERS
 
 # What strace shows of descriptors whose bytes are numbers, which count.
-OF_NUMBERS = ("signalfd", "eventfd")
+SIGNALS, NUMBERS = "signalfd", "eventfd"
 DESCRIPTOR = re.compile(r"\(?(\d{1,10})(?!\d)(?:<((?:->|[^<>])*)>)?")
 # What counts of the words of these is the descriptor that stands first, and of those all.
 OF_DESCRIPTORS = READS | WRITES | {"accept", "accept4"}
@@ -100,7 +100,8 @@ def what_counts(name: str, args: str) -> str:
     found = DESCRIPTOR.match(args) if name in OF_DESCRIPTORS else None
     if found is None:
         return ""
-    return args if found[2] and any(it in found[2] for it in OF_NUMBERS) else found[0]
+    descriptor, path = found.group(0, 2)
+    return args if path and (SIGNALS in path or NUMBERS in path) else descriptor
 
 
 class Steps:
@@ -126,7 +127,7 @@ class Steps:
             self.is_delayed = self.is_delayed or DELAYED in asked.tail
         self.whose.append(whose)
         self.asked.append(asked)
-        self.requests.append(requests or NO_REQUESTS)
+        self.requests.append(requests)
         self.begun.append(begun)
         self.ended.append(ended)
         self.time.append(time)

@@ -98,14 +98,16 @@ class Walk:
 
     def go(self, steps: Steps, births: Sequence[Birth]) -> None:
         """Takes beginnings, births and ends in the order of the places of their lines."""
+        threads = self.threads
         for what, it in steps.in_order(births):
             if isinstance(it, Birth):
                 self.born(it)
                 continue
+            thread = threads.get(it.whose.thread) or self.newcomer(it)
             if what != END:
-                self.begin(it)
+                self.begin(thread, it)
             if what != BEGIN:
-                self.end(it)
+                self.end(thread, it)
 
     # Threads
 
@@ -173,24 +175,24 @@ class Walk:
 
     # Beginnings
 
-    def begin(self, step: Step) -> None:
-        thread = self.threads.get(step.whose.thread) or self.newcomer(step)
-        if step.time > thread.last:
-            thread.clock += step.time - thread.last
-            thread.last = step.time
-        name = step.asked.name
+    def begin(self, thread: Thread, step: Step) -> None:
+        time, asked, requests = step.time, step.asked, step.requests
+        if time > thread.last:
+            thread.clock += time - thread.last
+            thread.last = time
+        name = asked.name
         if name == "+++":
             return
-        if step.requests:
+        if requests:
             thread.poll = None
             if self.named:
                 self.come_after_names(thread, step)
-            self.frontiers.issue(thread, step.requests)
+            self.frontiers.issue(thread, requests)
         thread.point = None
         release = RELEASES.get(name)
         if release is not None:
-            point = thread.point = thread.here()
-            if not step.asked.has_failed or name == "connect":
+            point = thread.point = Point(thread.last, thread.name, thread.own, thread.clock)
+            if not asked.has_failed or name == "connect":
                 release(self, thread, step, point)
         elif name in EXITS:
             thread.point = thread.here()
@@ -307,8 +309,9 @@ class Walk:
 
     # Ends
 
-    def end(self, step: Step) -> None:
-        thread, name = self.threads.get(step.whose.thread) or self.newcomer(step), step.asked.name
+    def end(self, thread: Thread, step: Step) -> None:
+        asked, end = step.asked, step.end
+        name = asked.name
         if name == "+++":
             if thread.name not in self.exits:
                 thread.point = None
@@ -317,18 +320,17 @@ class Walk:
         if name == "---":
             self.signalled(thread, step)
             return
+        # The time of a request is no thinking.
         if step.requests:
-            # The time of a request is no thinking.
-            thread.last = max(thread.last, step.end)
             if self.named:
                 self.note_makers(thread, step)
-            return
-        if not (step.asked.has_failed and self.interrupted(thread, step)):
+        elif not (asked.has_failed and self.interrupted(thread, step)):
             acquire = ACQUIRES.get(name)
             if acquire is None or not acquire(self, thread, step):
-                thread.clock += step.end - step.time
+                thread.clock += end - step.time
                 self.not_explained(step)
-        thread.last = max(thread.last, step.end)
+        if end > thread.last:
+            thread.last = end
 
     def note_makers(self, thread: Thread, step: Step) -> None:
         for number in step.requests:

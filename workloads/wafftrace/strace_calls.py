@@ -7,7 +7,7 @@ from collections.abc import Iterable
 from .logs import Lines, Refusal
 from .order import Record
 from .order_steps import CALLS as ORDERED
-from .order_steps import what_counts
+from .order_steps import NO_REQUESTS, what_counts
 from .processes import FORKED, FORKS, RESUMED, UNFINISHED, Birth, Children, Event, Process, Who, nanoseconds, parted
 from .strace_names import DESCRIPTOR, SAY_FOLDER, Call, absolute
 from .strace_requests import CALLS, Requests
@@ -141,15 +141,16 @@ class Calls:
         took = nanoseconds(seconds, digits) if digits else None
         if self.order is None:
             return self.returned(at, process, name, args, (result, path), (time, took))
+        order, made = self.order, self.requests.requests
         if name in NODES and result == "0" and FIFO.search(args):
-            self.note_fifo(self.order, process, args)
-        made = self.requests.requests
+            self.note_fifo(order, process, args)
         before = len(made)
         is_understood = self.returned(at, process, name, args, (result, path), (time, took))
-        if name in ORDERED or len(made) > before:
-            words = name, what_counts(name, args), result, behind
-            whose = self.order.of(process.who, pid, process.box)
-            self.order.steps.add(whose, begun, at, time, time + (took or 0), words, range(before, len(made)))
+        after = len(made)
+        if after > before or name in ORDERED:
+            whose = order.whose.get(process.who.thread) or order.of(process.who, pid, process.box)
+            requests = range(before, after) if after > before else NO_REQUESTS
+            order.steps.add(whose, begun, at, time, time + (took or 0), (name, what_counts(name, args), result, behind), requests)
         return is_understood
 
     def note_fifo(self, order: Record, process: Process, args: str) -> None:
