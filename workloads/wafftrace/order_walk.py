@@ -154,7 +154,10 @@ class Walk:
     def wait_for(self, thread: Thread, step: Step, points: Sequence[Point], kind: str) -> bool:
         """A call has ended that waited for these. Its time is a wait where the latest of them came after its beginning, else thinking."""
         counts = kind in self.kinds
-        latest = max([it.time for it in points if it.who != thread.name], default=None)
+        latest: int | None = None
+        for it in points:
+            if it.who != thread.name and (latest is None or it.time > latest):
+                latest = it.time
         took = step.end - step.time
         is_known = counts and latest is not None and latest > step.time - SLACK
         if counts and latest is not None and thread.poll and latest > thread.poll[1]:
