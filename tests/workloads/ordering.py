@@ -23,7 +23,7 @@ WORLDS = 60
 KINDS_OF = {
     "barrier": {"futex"}, "children": {"fork", "wait"}, "eventfd": {"pipe"}, "flock": {"lock"}, "futex-condition": {"futex"},
     "futex-mutex": {"futex"}, "join": {"futex"},
-    "lock-far": {"lock"}, "lock-readers": {"lock"}, "lock-retry": {"lock"}, "lock-wait": {"lock"}, "names": {"name"}, "pipe": {"pipe"},
+    "lock-asked": {"lock"}, "lock-far": {"lock"}, "lock-readers": {"lock"}, "lock-retry": {"lock"}, "lock-wait": {"lock"}, "names": {"name"}, "pipe": {"pipe"},
     "pipe-full": {"pipe"}, "reduced": {"pipe"}, "signal": {"signal"}, "socket": {"socket"}, "tcp": {"socket"}, "vfork": {"fork"},
 }
 

@@ -108,8 +108,8 @@ class Frontiers:
         own, more = thread.own, point.clock + more - thread.clock
         for client, every in point.of.items():
             for number, gap in every:
-                old = own.get(client, NO_ENTRIES)
-                found = self.put(old, number, gap + more)
+                old = own.get(client)
+                found = [(number, gap + more)] if old is None else self.put(old, number, gap + more)
                 if found is not old:
                     # Points have those of the thread, so they stay as they are.
                     own = dict(own) if own is thread.own else own
@@ -122,7 +122,7 @@ class Frontiers:
         number = numbers.start
         self.whose[number] = thread.name
         self.first(thread, number)
-        for number in numbers[1:]:
+        for number in numbers[1:] if len(numbers) > 1 else ():
             self.whose[number] = thread.name
             self.least[number] = self.least[number - 1]
             self.note(thread.name, number, (number - 1, 0))

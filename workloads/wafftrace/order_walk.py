@@ -154,7 +154,10 @@ class Walk:
     def wait_for(self, thread: Thread, step: Step, points: Sequence[Point], kind: str) -> bool:
         """A call has ended that waited for these. Its time is a wait where the latest of them came after its beginning, else thinking."""
         counts = kind in self.kinds
-        latest = max([it.time for it in points if it.who != thread.name], default=None)
+        latest: int | None = None
+        for it in points:
+            if it.who != thread.name and (latest is None or it.time > latest):
+                latest = it.time
         took = step.end - step.time
         is_known = counts and latest is not None and latest > step.time - SLACK
         if counts and latest is not None and thread.poll and latest > thread.poll[1]:
@@ -208,9 +211,9 @@ class Walk:
 
     def give_up(self, thread: Thread, step: Step, point: Point) -> None:
         """A record lock is given up."""
-        if "F_UNLCK" in step.asked.args:
-            number, path = descriptor_of(step.asked.args)
-            self.locks.give_up((path, "record"), holder_of(step, number), range_of(step.asked.args)[0], point)
+        asked = record_lock_of(step.asked.args)
+        if asked is not None and asked.kind == "F_UNLCK":
+            self.locks.give_up(asked.key, (step.whose.process, asked.descriptor), asked.of, point)
 
     def give_up_whole(self, thread: Thread, step: Step, point: Point) -> None:
         if "LOCK_UN" in step.asked.args:
@@ -373,11 +376,10 @@ class Walk:
 
     def lock(self, thread: Thread, step: Step) -> bool:
         """A record lock that was tried for, or taken."""
-        if "_SETLK" not in step.asked.args or "F_UNLCK" in step.asked.args:
+        asked = record_lock_of(step.asked.args)
+        if asked is None or asked.kind == "F_UNLCK":
             return False
-        number, path = descriptor_of(step.asked.args)
-        of, kind = range_of(step.asked.args)
-        return self.locked(thread, step, (path, "record"), holder_of(step, number), of, kind == "F_WRLCK")
+        return self.locked(thread, step, asked.key, (step.whose.process, asked.descriptor), asked.of, asked.kind == "F_WRLCK")
 
     def lock_whole(self, thread: Thread, step: Step) -> bool:
         if "LOCK_UN" in step.asked.args:
@@ -521,17 +523,31 @@ def shown_bytes(args: str) -> bytes:
     return bytes(min(ord(it), 255) for it in text)
 
 
-def holder_of(step: Step, descriptor: int) -> Holder:
-    """Whose a record lock is: the process's, or of F_OFD_SETLK the descriptor's."""
-    return step.whose.process, descriptor if "F_OFD" in step.asked.args else -1
+class RecordLock(NamedTuple):
+    """What a call asks for that takes or gives up a record lock: its file, the descriptor that has it (-1 where the process has), its bytes, and
+    its kind."""
+
+    key: Key
+    descriptor: int
+    of: Range
+    kind: str
 
 
 @functools.lru_cache(maxsize=1 << 14)
+def record_lock_of(args: str) -> RecordLock | None:
+    """None where a call of fcntl is on something else, or asks what holds a lock (F_GETLK)."""
+    if "_SETLK" not in args:
+        return None
+    number, path = descriptor_of(args)
+    of, kind = range_of(args)
+    return RecordLock((path, "record"), number if "F_OFD" in args else -1, of, kind)
+
+
 def range_of(args: str) -> tuple[Range, str]:
     """The bytes of a record lock, and its kind. One that does not begin at a place of the file is of the whole file."""
     found = LOCK.search(args)
     if found is None or found[2] != "SEEK_SET" or int(found[3]) < 0:
-        return Range(), found[1] if found else ""
+        return Range(), found[1] if found else "F_UNLCK" if "F_UNLCK" in args else ""
     first, length = min(int(found[3]), BEHIND - 1), int(found[4])
     return Range(first, min(first + length, BEHIND) if length else BEHIND), found[1]
 
