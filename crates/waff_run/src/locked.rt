@@ -71,7 +71,7 @@ impl<'a, C: RunOf, S: Store> Locked<'a, C, S> {
         match self.line.begin(worker) {
             Ok(begun) => begun,
             Err(_) => {
-                self.stop(Stopped::Line);
+                self.stop(Stopped::Memory);
                 None
             }
         }
@@ -88,19 +88,9 @@ impl<'a, C: RunOf, S: Store> Locked<'a, C, S> {
         }
     }
 
-    /// All that are issued by this time join.
+    /// The line is told the time.
     pub fn arrive(&mut self, now: u64) {
         self.line.tell(now);
-        for _ in 0..u64::MAX {
-            match self.line.join() {
-                Ok(true) => {}
-                Ok(false) => return,
-                Err(_) => {
-                    self.stop(Stopped::Memory);
-                    return;
-                }
-            }
-        }
     }
 
     pub fn stop(&mut self, stopped: Stopped) {
