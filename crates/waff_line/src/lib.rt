@@ -1,9 +1,9 @@
 //! The line of a run: which messages have been issued, which may begin, and which run.
 //!
-//! It is pure: no thread, clock or file is in it. Events change it: it is *told* a time, the next message
-//! *joins*, one *begins* on a worker, and one *ends*. Among messages that exclude each other the one that
-//! joined first is served first. They join in the order of their issues, and in the first two versions of
-//! traces, which know no clients, in that of their numbers.
+//! It is pure: no thread, clock or file is in it. Events change it: it is *told* a time, a message *begins* on
+//! a worker, and one *ends*. Before one begins, all *join* whose issue has come. Among messages that exclude
+//! each other the one that joined first is served first. They join in the order of their issues, and in the
+//! first two versions of traces, which know no clients, in that of their numbers.
 //! - `line`: the line and its events.
 //! - `notes`: what has happened; `turn`: when each message began and finished, and on which worker.
 //! - `queue`: which messages are due, and which may begin; `order`: the order in which they are served.

@@ -1,5 +1,9 @@
 //! What is behind the lock of a run.
 
+ghost use Rattle.std.specs.Prelude.{◌⊎◌, IfNone, IsSome};
+ghost use Rattle.waff_line.specs.Lined.{course_in};
+ghost use Rattle.waff_line.specs.Machine.{NobodyMayBegin};
+
 use crate::fault::Stopped;
 use crate::going::{Going, Performed, RunOf, Taken};
 use crate::store::Store;
@@ -66,8 +70,11 @@ impl<'a, C: RunOf, S: Store> Locked<'a, C, S> {
         true
     }
 
-    /// The first message that is ready begins on this worker.
-    pub fn begin(&mut self, worker: u32) -> Option<Taken<C, S>> {
+    /// The first message that is ready begins on this worker, where it is free. Where none does, none may, or the run stops.
+    pub fn begin(&mut self, worker: u32) -> Option<Taken<C, S>>
+        ensures idle { IfNone result (IsSome self.new.stopped
+            ⊎ NobodyMayBegin (course_in self.old.line) self.old.line.state worker) }
+    {
         match self.line.begin(worker) {
             Ok(begun) => begun,
             Err(_) => {
@@ -93,7 +100,9 @@ impl<'a, C: RunOf, S: Store> Locked<'a, C, S> {
         self.line.tell(now);
     }
 
-    pub fn stop(&mut self, stopped: Stopped) {
+    pub fn stop(&mut self, stopped: Stopped)
+        ensures { IsSome self.new.stopped }
+    {
         if self.stopped.is_none() {
             self.stopped = Some(stopped);
         }
