@@ -1,6 +1,6 @@
 -- The state of the line of a run, as its threads share it: events led to it.
 use Rattle.std.proofs.Common.{◌≡◌, ℕ, zero, suc, ◌<◌, ◌≤◌, inl, inr, true, false, List, [], ◌∷◌, ◌++◌, length, map, get_or, refl, ap, sym, ◌∙◌, subst, arith}
-use Rattle.std.specs.Prelude.{All, MatchOption, MatchResult, Option, None, Some, Result, Ok, Err}
+use Rattle.std.specs.Prelude.{All, MatchOption, MatchResult, Option, Some, Result, Ok}
 use Rattle.std.proofs.lemmas.Bool.{cases_Bool, cases_lt, false≢true}
 use Rattle.std.proofs.lemmas.List.{get_or-map, length-map}
 use Rattle.std.proofs.lemmas.List.Elements.{All-get_or}
