@@ -19,11 +19,6 @@ two,500,0,x,3,read s:0;read s:2
 three,500,0,y,2,add s:2 1
 ";
 
-/// Whether an issue joins.
-fn joins(rt: &impl Abort, line: &mut Line<'_>) -> bool {
-    line.join().expect(rt, "memory")
-}
-
 /// How a message ends.
 fn ended(rt: &impl Abort, line: &mut Line<'_>, message: u32, tick: u64) -> Ended {
     line.end(message, tick).expect(rt, "memory")
@@ -32,12 +27,12 @@ fn ended(rt: &impl Abort, line: &mut Line<'_>, message: u32, tick: u64) -> Ended
 /// Messages 1 and 3 are issued, and begin.
 fn begin_first(rt: &impl Abort, line: &mut Line<'_>) {
     // Message 1 is issued at 0, and joins when that tick is over.
-    assert!(rt; !joins(rt, line));
+    assert_eq!(rt; line.begin(1).ok(), Some(None));
     line.tell(1);
-    assert!(rt; joins(rt, line) && !joins(rt, line));
     assert_eq!(rt; line.begin(1).ok(), Some(Some(1)));
     line.tell(3);
-    assert!(rt; joins(rt, line) && !joins(rt, line));
+    // The first worker is not free.
+    assert_eq!(rt; line.begin(1).ok(), Some(None));
     assert_eq!(rt; line.begin(2).ok(), Some(Some(3)));
 }
 
@@ -45,11 +40,11 @@ fn begin_first(rt: &impl Abort, line: &mut Line<'_>) {
 fn wait_for_third(rt: &impl Abort, line: &mut Line<'_>) {
     assert_eq!(rt; ended(rt, line, 1, 6), Ended::Well);
     line.tell(9);
-    assert!(rt; !joins(rt, line));
+    assert_eq!(rt; line.begin(1).ok(), Some(None));
     assert_eq!(rt; line.next(), 10);
     line.tell(10);
-    assert!(rt; joins(rt, line));
     assert_eq!(rt; line.begin(1).ok(), Some(None));
+    assert_eq!(rt; line.next(), u64::MAX);
 }
 
 /// Message 3 ends, and message 2 begins and ends.
@@ -93,7 +88,7 @@ fn ends_where_a_message_runs_too_long(rt: HostRuntime) {
     let accepted = accepted(&rt, rt.alloc(), TRACE);
     let mut line = Line::of(rt.alloc(), accepted.case(), 1, 1).expect(&rt, "memory");
     line.tell(1);
-    assert!(rt; joins(&rt, &mut line));
     assert_eq!(rt; line.begin(1).ok(), Some(Some(1)));
     assert_eq!(rt; ended(&rt, &mut line, 1, 1_000_002), Ended::TooLong);
+    assert!(rt; line.begin(1).is_err());
 }

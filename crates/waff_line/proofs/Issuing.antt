@@ -62,6 +62,10 @@ comes_by version issue clock by_issue by_number = elim (cases_Bool (has_clients 
 pub come_from : (version : Version) (issue clock : ℕ) → issue < clock → HasCome version issue clock
 come_from version issue clock earlier = comes_by version issue clock (λ _. earlier) (λ _. omega (arith, earlier))
 
+-- and of messages of clients it is earlier
+pub come_before : (version : Version) (issue clock : ℕ) → has_clients version ≡ true → HasCome version issue clock → issue < clock
+come_before version issue clock has come = omega (arith, come, cond-true {A = ℕ} (has_clients version) 1 0 has)
+
 -- what awaits one that finishes when the issue of message n has come is served no sooner than message n
 pub issued_late : (version : Version) (work : Work) (start : ℕ → ℕ) (i n f clock : ℕ) → (has_clients version ≡ false → AwaitsNone work) → IsAwaited (work.awaits i) f
     → HasCome version (issue_of work start n) clock → clock ≤ finish_of work start f → ComesBefore (key_of version work start) i n → ⊥

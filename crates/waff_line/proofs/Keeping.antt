@@ -1,11 +1,10 @@
 -- What the code does with a queue keeps it.
-use Rattle.std.proofs.Common.{◌≡◌, ℕ, ◌+◌, ◌-◌, ◌<◌, ◌≤◌, inl, inr, false, true, List, [], ◌∷◌, ◌++◌, length, map, set, Contains, refl, ap, sym, ◌∙◌, subst, arith}
+use Rattle.std.proofs.Common.{◌≡◌, ℕ, ◌+◌, ◌-◌, ◌<◌, ◌≤◌, inl, inr, Bool, false, true, List, [], ◌∷◌, ◌++◌, length, map, set, Contains, refl, ap, sym, ◌∙◌, subst, arith}
 use Rattle.std.specs.List.{range_with_len}
-use Rattle.std.proofs.lemmas.Bool.{cases_Bool, cond-false, cond-true}
+use Rattle.std.specs.List.Sorted.{IsPermutation}
+use Rattle.std.proofs.lemmas.Bool.{cases_Bool, cond-false, cond-true, false≢true}
 use Rattle.std.proofs.lemmas.List.{length-map, map-id}
 use Rattle.std.proofs.lemmas.List.FromFn.{map-range_with_len_more}
-use Rattle.std.proofs.lemmas.List.Elements.{Contains-get_or}
-use Rattle.std.proofs.lemmas.List.Sorted.{Contains-permutation, IsPermutation-sym}
 use Rattle.waff_model.specs.Preorder.{AreNested}
 use Rattle.waff_model.specs.Tree.{Node}
 use Rattle.waff_model.specs.Versions.{has_clients}
@@ -15,24 +14,28 @@ use Rattle.waff_assign.specs.Held.{AreKnown, Held, IsHeldWithin, nothing}
 use Rattle.waff_assign.specs.Order.{held_of}
 use Rattle.waff_assign.specs.declared.case.Case.{Case}
 use Rattle.waff_order.specs.Joined.{Joined, HaveJoined}
-use Rattle.waff_order.specs.Needs.{IsNeed}
-use Rattle.waff_waits.specs.Waits.{IsFree, WhoWaits, waiting_for}
+use Rattle.waff_waits.specs.Waits.{IsFree as WaitsFree, WhoWaits, waiting_for}
 use Rattle.waff_plan.specs.Due.{LeavesDue}
 use Rattle.waff_plan.specs.Obeys.{AwaitsNone}
+use Rattle.waff_plan.specs.Timetable.{AreTimings}
 use Rattle.waff_plan.specs.Timing.{work_of}
 use Rattle.waff_plan.specs.Work.{IsAmongFirst}
+use Rattle.waff_plan.specs.declared.due.TheConstants.{NEVER}
 use Rattle.waff_plan.specs.declared.timing.Timing.{Timing}
-use Rattle.waff_line.specs.Lined.{course_in, AreFirstDue, AreOpened, IsAwaiting, IsLined, first_joined, issue_noted, latecomers, served_at}
-use Rattle.waff_line.specs.Machine.{Course, IsCourse, State, HasEnded, IsRunning, MayBegin, Reaches, Runs, Steps, begun_on, ended_at, issue_in, measured, opening, start_in, told}
+use Rattle.waff_line.specs.Lined.{course_in, AreFirstDue, AreOpened, IsAwaiting, IsLined, first_joined, issue_noted, latecomers}
+use Rattle.waff_line.specs.Entered.{AreWaiting, HaveNoneCome, ready_in}
+use Rattle.waff_line.specs.Machine.{Course, IsCourse, State, IsFree, IsRunning, MayBegin, NobodyMayBegin, Reaches, Runs, Steps, begun_on, ended_at, opening, told}
 use Rattle.waff_line.specs.Noted.{CanBegin}
 use Rattle.waff_line.specs.declared.event.Event.{Event}
 use Rattle.waff_line.specs.Scaled.{scaled}
-use Rattle.waff_line.specs.Queued.{IsQueue, course_of, value_by}
+use Rattle.waff_line.specs.Queued.{IsQueue, course_of, value_by, value_of}
 use Rattle.waff_line.specs.declared.queue.Queue.{Queue}
-use Rattle.waff_line.proofs.Lining.{clear_at, contains_first, lined_more}
-use Rattle.waff_line.proofs.Issuing.{comes_by}
+use Rattle.waff_line.specs.declared.waiting.Waiting.{Waiting}
+use Rattle.waff_line.proofs.Entering.{due_begun, due_told}
+use Rattle.waff_line.proofs.Lining.{lined_more}
+use Rattle.waff_line.proofs.Readying.{none_may, ready_may, waiting_begun, waiting_told}
 use Rattle.waff_line.proofs.Opening.{awaiting_begun, awaiting_told}
-use Rattle.waff_line.proofs.Queueing.{issue_alone, key_by_issue, latecomers_all, latecomers_none, lined_begun, lined_ended_by_issue, lined_ended_by_number, lined_opening_by_issue, lined_opening_by_number, lined_told}
+use Rattle.waff_line.proofs.Queueing.{latecomers_all, latecomers_none, lined_begun, lined_ended_by_issue, lined_ended_by_number, lined_opening_by_issue, lined_opening_by_number, lined_told}
 use Rattle.waff_line.proofs.Scaling.{earlier_scaled, none_scaled}
 use Rattle.waff_line.proofs.Sound.{Sound, sound_reached}
 use Rattle.waff_line.proofs.Turns.{begun_number}
@@ -69,7 +72,7 @@ lined_opening course spans joining messages due alone many are have first = elim
 pub lined_ended : (course : Course) (s : State) (is : IsCourse course) (m now : ℕ) (sound : Sound course s) (running : IsRunning s m)
     (spans : List Span) (joining : Joined) (messages : List ℕ) (w after : WhoWaits) (awaiting : IsAwaiting course.work s w)
     (gone : after ≡ record { awaited = set w.awaited (m - 1) []; finished = set w.finished (m - 1) true }) (old new : List (ℕ × ℕ))
-    → AreOpened (issue_noted course.work (ended_at s m now)) (IsFree (waiting_for w m) after) old new
+    → AreOpened (issue_noted course.work (ended_at s m now)) (WaitsFree (waiting_for w m) after) old new
     → IsLined course s spans joining messages (latecomers course.version old)
     → IsLined course (ended_at s m now) spans joining messages (latecomers course.version new)
 lined_ended course s is m now sound running spans joining messages w after awaiting gone old new opened h = elim (cases_Bool (has_clients course.version)) [
@@ -101,6 +104,17 @@ runs_more course s (first ∷ events) t event u (v, leads, rest) step = (v, lead
 pub reaches_more : (course : Course) (s : State) (event : Event) (t : State) → Reaches course s → Steps course s event t → Reaches course t
 reaches_more course s event t (events, runs) step = (events ++ event ∷ [], runs_more course (opening course) events s event t runs step)
 
+-- one that is over
+pub queue_over : (q : Queue) (workers : ℕ) (s : State) → q.is_over ≡ true → length q.timings.items ≡ length q.case.assigned.now
+    → AreTimings q.case.trace.now.version q.timings.items → IsQueue q workers s
+queue_over q workers s over many timings = record {
+  many = many;
+  timings = timings;
+  awaiting = λ going. absurd (false≢true (sym going ∙ over));
+  lined = λ going. absurd (false≢true (sym going ∙ over));
+  entered = λ going. absurd (false≢true (sym going ∙ over));
+}
+
 module _ (q : Queue) (workers : ℕ) (s : State) (h : IsQueue q workers s) where
   pub is_course : 1 ≤ workers → IsCourse (course_of q workers)
   is_course staffed = record { earlier = earlier_scaled q.tick (work_of q.timings.items) h.timings.earlier; alone = λ without. none_scaled q.tick (work_of q.timings.items) (h.timings.alone without); many = h.many; staffed = staffed }
@@ -113,21 +127,73 @@ module _ (q : Queue) (workers : ℕ) (s : State) (h : IsQueue q workers s) where
     lined = λ going.
         lined_told (course_of q workers) s q.order.spans.now q.order.joining q.order.messages.items (latecomers q.case.trace.now.version q.due)
         (h.lined going) now;
+    entered = λ going.
+        let are = h.entered going in
+        record {
+          entered = are.entered;
+          issued = due_told (course_of q workers) s are.entered q.due are.issued now;
+          placed = are.placed;
+          waiting = waiting_told (course_of q workers) s q.order.joining q.order.messages.items are.entered q.waiting.waits (ready_in q.waiting) are.waiting now;
+        };
   }
 
   sound_begins : (x m : ℕ) → Reaches (course_of q workers) s → MayBegin (course_of q workers) s x m → Sound (course_of q workers) s
   sound_begins x m reached may =
       sound_reached (course_of q workers) (is_course (omega (arith, may.worker.from, may.worker.to))) s reached
 
-  pub queue_begun : (x m : ℕ) → Reaches (course_of q workers) s → MayBegin (course_of q workers) s x m → IsQueue q workers (begun_on s x m)
-  queue_begun x m reached may = record {
-    many = h.many;
-    timings = h.timings;
-    awaiting = λ going. awaiting_begun (scaled q.tick (work_of q.timings.items)) s q.awaits (h.awaiting going) (course_of q workers) x m (sound_begins x m reached may) may;
-    lined = λ goes.
-        lined_begun (course_of q workers) s q.order.spans.now q.order.joining q.order.messages.items (latecomers q.case.trace.now.version q.due)
-        (h.lined goes) x m (sound_begins x m reached may) may;
-  }
+  -- a message that was ready begins
+  pub queue_begun : (x m : ℕ) → Reaches (course_of q workers) s → MayBegin (course_of q workers) s x m → (later : Waiting) → later.waits ≡ q.waiting.waits
+      → IsPermutation (ready_in q.waiting) (m ∷ ready_in later)
+      → IsQueue (record { case = q.case; timings = q.timings; tick = q.tick; awaits = q.awaits; order = q.order; due = q.due; waiting = later; is_over = q.is_over }) workers (begun_on s x m)
+  queue_begun x m reached may later same popped =
+      let course = course_of q workers in
+      let sound = sound_begins x m reached may in
+      record {
+        many = h.many;
+        timings = h.timings;
+        awaiting = λ going. awaiting_begun (scaled q.tick (work_of q.timings.items)) s q.awaits (h.awaiting going) course x m sound may;
+        lined = λ going.
+            lined_begun course s q.order.spans.now q.order.joining q.order.messages.items (latecomers q.case.trace.now.version q.due)
+            (h.lined going) x m sound may;
+        entered = λ going.
+            let are = h.entered going in
+            record {
+              entered = are.entered;
+              issued = due_begun course s are.entered q.due are.issued x m sound may;
+              placed = are.placed;
+              waiting = subst (λ (w : WhoWaits). AreWaiting course (begun_on s x m) q.order.joining q.order.messages.items are.entered w (ready_in later)) (sym same)
+                  (waiting_begun course s q.order.joining q.order.messages.items are.entered q.waiting.waits (ready_in q.waiting) are.waiting x m sound may
+                  (ready_in later) popped);
+            };
+      }
+
+  -- a message that is ready may begin on a worker that is free, and can
+  pub queue_may : q.is_over ≡ false → Reaches (course_of q workers) s → (x m : ℕ) → Contains (ready_in q.waiting) m → IsAmongFirst workers x → IsFree s x
+      → MayBegin (course_of q workers) s x m
+  queue_may going reached x m listed worker free =
+      let are = h.entered going in
+      let sound = sound_reached (course_of q workers) (is_course (omega (arith, worker.from, worker.to))) s reached in
+      ready_may (course_of q workers) s q.order.spans.now q.order.joining q.order.messages.items (latecomers q.case.trace.now.version q.due) (h.lined going)
+      are.entered q.due are.issued are.placed q.waiting.waits (ready_in q.waiting) are.waiting sound x m listed worker free
+
+  pub queue_can : s.clock < NEVER → Reaches (course_of q workers) s → (x m : ℕ) → MayBegin (course_of q workers) s x m → CanBegin s workers x m
+  queue_can early reached x m may =
+      let sound = sound_begins x m reached may in
+      record {
+        worker = may.worker;
+        free = may.free;
+        number = record { from = may.number.from; to = omega (arith, may.number.to, sound.many) };
+        waits = may.waits;
+        early = early;
+      }
+
+  -- and where none is ready and none is to come, none may
+  pub queue_none : q.is_over ≡ false → ready_in q.waiting ≡ [] → HaveNoneCome q.case.trace.now.version s.clock q.due → (x : ℕ)
+      → NobodyMayBegin (course_of q workers) s x
+  queue_none going none come x =
+      let are = h.entered going in
+      none_may (course_of q workers) s q.order.spans.now q.order.joining q.order.messages.items (latecomers q.case.trace.now.version q.due) (h.lined going)
+      are.entered q.due are.issued are.placed q.waiting.waits (ready_in q.waiting) are.waiting none come x
 
   -- the message at a place that has joined
   module _ (going : q.is_over ≡ false) where
@@ -143,53 +209,10 @@ module _ (q : Queue) (workers : ℕ) (s : State) (h : IsQueue q workers s) where
     pub counts : length q.order.joining.needs ≡ length messages
     counts = line.joined.needs.count ∙ length-map messages (held_of q.case.assigned.now)
 
-    module _ (place : ℕ) (number : IsAmongFirst (length messages) place) where
-      joins : Contains messages (served_at messages place)
-      joins = let from = number.from in let to = number.to in Contains-get_or messages (place - 1) 0 (omega (arith, from, to))
-
-      pub number_at : IsAmongFirst (length q.timings.items) (served_at messages place)
-      number_at = (line.each (served_at messages place) joins).0
-
-      pub needs_at : IsAmongFirst (length q.order.joining.needs) place
-      needs_at = let from = number.from in let to = number.to in let as_many = counts in record { from = from; to = omega (arith, to, as_many) }
-
-      pub may_at : (x : ℕ) → Reaches course s → CanBegin s workers x (served_at messages place)
-          → course.work.floor (served_at messages place) ≤ s.clock
-          → ((k : ℕ) → IsNeed q.order.joining.needs k place → HasEnded s (served_at messages k))
-          → MayBegin course s x (served_at messages place)
-      may_at x reached can early done =
-          let from = can.worker.from in
-          let to = can.worker.to in
-          let is = is_course (omega (arith, from, to)) in
-          let m = served_at messages place in
-          record {
-            worker = can.worker;
-            free = can.free;
-            number = number_at;
-            waits = can.waits;
-            issued = (line.each m joins).1;
-            come = comes_by q.case.trace.now.version (issue_in course s m) s.clock
-                (λ has. let come = line.come has m joins in let key = key_by_issue course s m has in omega (arith, come, key))
-                (λ none.
-                let alone = issue_alone (measured course s) (start_in s) m (is.alone none m) in
-                omega (arith, alone, early));
-            clear = clear_at course s q.order.spans.now q.order.joining messages (latecomers q.case.trace.now.version q.due) line
-                (sound_reached course is s reached) place number done;
-          }
-
     -- the first of those that are due joins
     module _ (has : has_clients q.case.trace.now.version ≡ true) (r : ℕ × ℕ) (rest : List (ℕ × ℕ)) (leaves : LeavesDue q.due r rest) where
       line_due : IsLined course s q.order.spans.now q.order.joining messages q.due
       line_due = subst (λ ws. IsLined course s q.order.spans.now q.order.joining messages ws) (latecomers_all q.case.trace.now.version q.due has) line
-
-      pub joins_number : IsAmongFirst (length q.case.assigned.now) r.1
-      joins_number =
-          let waited = Contains-permutation (r ∷ rest) q.due r (IsPermutation-sym q.due (r ∷ rest) leaves.rest) (contains_first r rest) in
-          let number = (line_due.waiting r waited).number in
-          let from = number.from in
-          let to = number.to in
-          let many = h.many in
-          record { from = from; to = omega (arith, to, many) }
 
       pub joins_more : r.0 < s.clock → (after : Joined)
           → HaveJoined q.case.tree.now q.order.spans.now
@@ -203,12 +226,21 @@ module _ (q : Queue) (workers : ℕ) (s : State) (h : IsQueue q workers s) where
 pub course_same : (q other : Queue) (workers : ℕ) → other.case ≡ q.case → other.timings.items ≡ q.timings.items → other.tick ≡ q.tick
     → course_of other workers ≡ course_of q workers
 course_same q other workers case timings tick =
-    ap (λ (c : Case). course_in (value_by c other.timings.items other.tick (fresh, workers))) case
-    ∙ ap (λ (ts : List Timing). course_in (value_by q.case ts other.tick (fresh, workers))) timings
-    ∙ ap (λ (t : ℕ). course_in (value_by q.case q.timings.items t (fresh, workers))) tick
+    ap (λ (c : Case). course_in (value_by c other.timings.items other.tick false (fresh, workers))) case
+    ∙ ap (λ (ts : List Timing). course_in (value_by q.case ts other.tick false (fresh, workers))) timings
+    ∙ ap (λ (t : ℕ). course_in (value_by q.case q.timings.items t false (fresh, workers))) tick
   where
     fresh : State
     fresh = record { clock = 0; turns = [] }
+
+-- and so does what is seen of it
+pub value_same : (q other : Queue) (n : State × ℕ) → other.case ≡ q.case → other.timings.items ≡ q.timings.items → other.tick ≡ q.tick
+    → other.is_over ≡ q.is_over → value_of other n ≡ value_of q n
+value_same q other n case timings tick over =
+    ap (λ (c : Case). value_by c other.timings.items other.tick other.is_over n) case
+    ∙ ap (λ (ts : List Timing). value_by q.case ts other.tick other.is_over n) timings
+    ∙ ap (λ (t : ℕ). value_by q.case q.timings.items t other.is_over n) tick
+    ∙ ap (λ (b : Bool). value_by q.case q.timings.items q.tick b n) over
 
 pub range_more : (a n j : ℕ) → a + n ≡ j → range_with_len a (n + 1) ≡ range_with_len a n ++ j ∷ []
 range_more a n j is =

@@ -9,6 +9,9 @@ mod FirstDue
 mod Opening
 mod Queueing
 mod Keeping
+mod Joins
+mod Entering
+mod Readying
 mod Going
 mod Firsts
 mod GoingOn

@@ -1,14 +1,16 @@
 -- The order of service is kept by each event of a run, and needs that have ended are enough.
-use Rattle.std.proofs.Common.{◌≡◌, ℕ, zero, suc, ◌-◌, ◌<◌, ◌≤◌, ◌⊎◌, inl, inr, List, [], ◌∷◌, ◌++◌, length, map, get_or, Contains, refl, ap, sym, ◌∙◌, subst, arith}
+use Rattle.std.proofs.Common.{◌≡◌, ℕ, zero, suc, cond, ◌==◌, ◌-◌, ◌<◌, ◌≤◌, ◌⊎◌, inl, inr, List, [], ◌∷◌, ◌++◌, length, map, get_or, Contains, refl, ap, sym, ◌∙◌, subst, arith}
+use Rattle.std.specs.List.Sorted.{IsPermutation}
 use Rattle.std.proofs.lemmas.Bool.{cases_lt, cases_order}
 use Rattle.std.proofs.lemmas.List.{get_or-map, get_or_default, get_or_append_left, get_or_push, length_push, length-map, map_push}
 use Rattle.std.proofs.lemmas.List.Elements.{Contains-get_or, Contains-push, Contains-push_cases, Contains-append_left}
-use Rattle.std.proofs.lemmas.List.Sorted.{Contains-permutation, IsPermutation-sym}
+use Rattle.std.proofs.lemmas.List.Sorted.{Contains-permutation, IsPermutation-sym, sum_by-IsPermutation}
 use Rattle.waff_model.specs.declared.preorder.Span.{Span}
 use Rattle.waff_assign.specs.Held.{ExcludeEachOther, nothing}
 use Rattle.waff_assign.specs.Order.{held_of, IsOrdered, PathBy}
 use Rattle.waff_order.specs.Joined.{Joined, HaveJoined}
 use Rattle.waff_order.specs.Needs.{IsNeed}
+use Rattle.waff_waits.specs.Times.{times}
 use Rattle.waff_plan.specs.Due.{IsDueFirst, LeavesDue}
 use Rattle.waff_plan.specs.Order.{ComesBefore, Serves}
 use Rattle.waff_plan.specs.Work.{IsAmongFirst}
@@ -28,8 +30,12 @@ contains_more x y xs (k, within, is) = (suc k, omega arith, is)
 pub contains_first : {X : Type 0} (x : X) (xs : List X) → Contains (x ∷ xs) x
 contains_first x xs = (0, omega arith, refl)
 
+-- a list in another order lists each as often
+pub times_moved : (x : ℕ) (xs ys : List ℕ) → IsPermutation xs ys → times x ys ≡ times x xs
+times_moved x xs ys moved = sum_by-IsPermutation (λ y. cond (y == x) 1 0) xs ys moved
+
 -- of two messages one comes before the other, or they are one
-one_first : (key : ℕ → ℕ) (i j : ℕ) → ComesBefore key i j ⊎ ((i ≡ j) ⊎ ComesBefore key j i)
+pub one_first : (key : ℕ → ℕ) (i j : ℕ) → ComesBefore key i j ⊎ ((i ≡ j) ⊎ ComesBefore key j i)
 one_first key i j = elim (cases_order (key i) (key j)) [
   | inr (inl less) ↦ inl (inl less)
   | inr (inr more) ↦ inr (inr (inl more))
@@ -55,7 +61,7 @@ not_before key i j (inr one) (inr two) = let less = one.1 in let more = two.1 in
 module _ (course : Course) (s : State) (spans : List Span) (joining : Joined) (messages : List ℕ) (waits : List (ℕ × ℕ))
     (h : IsLined course s spans joining messages waits) where
   -- what is held at a place is what its message holds
-  held_at : (p : ℕ) → 1 ≤ p → p ≤ length messages
+  pub held_at : (p : ℕ) → 1 ≤ p → p ≤ length messages
       → held_of (map (held_of course.assigned) messages) p ≡ held_of course.assigned (served_at messages p)
   held_at p from to = get_or-map (held_of course.assigned) messages (p - 1) 0 nothing (omega (arith, from, to))
 

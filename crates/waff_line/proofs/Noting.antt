@@ -4,8 +4,8 @@ use Rattle.std.proofs.lemmas.Bool.{cases_eq, cases_lt, false≢true}
 use Rattle.std.proofs.lemmas.List.{get_or-map, get_or-replicate, get_or-set_other, get_or-set_same, get_or_past, length-map, length-replicate, length-set, map-set}
 use Rattle.waff_plan.specs.Work.{IsAmongFirst}
 use Rattle.waff_plan.specs.declared.due.TheConstants.{NEVER}
-use Rattle.waff_line.specs.Machine.{State, Turn, HasBegun, IsRunning, begun_on, ended_at, ended_turn, finish_at, finish_in, no_turn, start_in, turn_of, with_clock}
-use Rattle.waff_line.specs.Noted.{AreNoted, CanBegin, shown, state_of}
+use Rattle.waff_line.specs.Machine.{State, Turn, HasBegun, IsFree, IsRunning, begun_on, ended_at, ended_turn, finish_at, finish_in, no_turn, start_in, turn_of, with_clock}
+use Rattle.waff_line.specs.Noted.{AreNoted, CanBegin, RunsOn, shown, state_of}
 use Rattle.waff_line.specs.declared.turn.Turn.{Turn as NotedTurn}
 use Rattle.waff_line.proofs.Turns.{begun_number, turn_other, turn_same}
 
@@ -65,6 +65,28 @@ module _ (s : State) (runs : List ℕ) (h : AreNoted s runs) where
     pub noted_begun : AreNoted (begun_on s x m) (set runs (x - 1) m)
     noted_begun = record {
       own = own_begun;
+      busy = λ y from_y some. elim (cases_eq (y - 1) (x - 1)) [
+        | inl same ↦
+            let at : get_or (set runs (x - 1) m) (y - 1) 0 ≡ m
+            = ap (λ k. get_or (set runs (x - 1) m) k 0) same ∙ get_or-set_same runs (x - 1) m 0 (omega (arith, can.worker.from, can.worker.to, many)) in
+            subst (λ k. RunsOn (begun_on s x m) k y) (sym at) (
+              record {
+                begun = omega (arith, can.worker.from, ap (λ (turn : Turn). turn.worker) self_turn);
+                runs = ap (λ (turn : Turn). turn.ended) self_turn;
+              },
+              omega (arith, same, from_y, can.worker.from, ap (λ (turn : Turn). turn.worker) self_turn),
+            )
+        | inr apart ↦
+            let at = get_or-set_other runs (x - 1) (y - 1) m 0 apart in
+            let was = h.busy y from_y (λ none. some (at ∙ none)) in
+            let unlike : get_or runs (y - 1) 0 ≢ m = λ is. can.waits (subst (HasBegun s) is was.0.begun) in
+            let same = other_turn (get_or runs (y - 1) 0) unlike in
+            let worker = ap (λ (turn : Turn). turn.worker) same in
+            subst (λ k. RunsOn (begun_on s x m) k y) (sym at) (
+              record { begun = omega (arith, was.0.begun, worker); runs = ap (λ (turn : Turn). turn.ended) same ∙ was.0.runs },
+              worker ∙ was.1,
+            )
+      ];
       early = λ n begun. elim (cases_eq n m) [
         | inl is ↦
             let start = ap (λ k. start_in (begun_on s x m) k) is in
@@ -87,6 +109,7 @@ module _ (s : State) (runs : List ℕ) (h : AreNoted s runs) where
   pub noted_later : (clock : ℕ) → s.clock ≤ clock → AreNoted (with_clock s clock) runs
   noted_later clock later = record {
     own = λ n running. h.own n (record { begun = running.begun; runs = running.runs });
+    busy = λ x from some. let was = h.busy x from some in (record { begun = was.0.begun; runs = was.0.runs }, was.1);
     early = h.early;
     past = λ n. omega (arith, h.past n, later);
   }
@@ -128,6 +151,22 @@ module _ (s : State) (runs : List ℕ) (h : AreNoted s runs) where
             = λ is. unlike (sym (h.own n was) ∙ ap (λ w. get_or runs w 0) is ∙ h.own m running) in
             ap (λ w. get_or (set runs ((turn_of s m).worker - 1) 0) (w - 1) 0) worker
             ∙ get_or-set_other runs ((turn_of s m).worker - 1) ((turn_of s n).worker - 1) 0 0 apart ∙ h.own n was
+      ];
+      busy = λ y from_y some. elim (cases_eq (y - 1) ((turn_of s m).worker - 1)) [
+        | inl same ↦
+            absurd (some (ap (λ k. get_or (set runs ((turn_of s m).worker - 1) 0) k 0) same
+            ∙ get_or-set_same runs ((turn_of s m).worker - 1) 0 0 worker_there))
+        | inr apart ↦
+            let at = get_or-set_other runs ((turn_of s m).worker - 1) (y - 1) 0 0 apart in
+            let was = h.busy y from_y (λ none. some (at ∙ none)) in
+            let unlike : get_or runs (y - 1) 0 ≢ m
+            = λ is. apart (ap (λ k. k - 1) (sym was.1 ∙ ap (λ k. (turn_of s k).worker) is)) in
+            let same = other_ended (get_or runs (y - 1) 0) unlike in
+            let worker = ap (λ (turn : Turn). turn.worker) same in
+            subst (λ k. RunsOn (ended_at s m now) k y) (sym at) (
+              record { begun = omega (arith, was.0.begun, worker); runs = ap (λ (turn : Turn). turn.ended) same ∙ was.0.runs },
+              worker ∙ was.1,
+            )
       ];
       early = λ n begun. elim (cases_eq n m) [
         | inl is ↦
@@ -174,14 +213,21 @@ none_turn count (suc k) = elim (cases_lt k count) [
 none_begun : (count n : ℕ) → HasBegun (fresh count) n → ⊥
 none_begun count n begun = omega (arith, begun, ap (λ (turn : Turn). turn.worker) (none_turn count n))
 
+zero_at : (workers k : ℕ) → ◌≡◌ {A = ℕ} (get_or (replicate workers 0) k 0) 0
+zero_at workers k = elim (cases_lt k workers) [
+  | inl within ↦ get_or-replicate {A = ℕ} workers k 0 0 within
+  | inr past ↦ get_or_past (replicate {A = ℕ} workers 0) k 0 (omega (arith, past, length-replicate {A = ℕ} workers 0))
+]
+
 module _ (count workers : ℕ) (turns : List NotedTurn) (runs : List ℕ) (turn : NotedTurn) (seen : shown turn ≡ no_turn)
     (all : turns ≡ replicate count turn) where
   fresh_turns : map shown turns ≡ replicate count no_turn
   fresh_turns = ap (map shown) all ∙ map_replicate count turn no_turn seen
 
-  pub none_noted : AreNoted (state_of 0 turns) runs
-  none_noted = subst (λ ts. AreNoted (record { clock = 0; turns = ts }) runs) (sym fresh_turns) (record {
+  pub none_noted : runs ≡ replicate workers 0 → AreNoted (state_of 0 turns) runs
+  none_noted idle = subst (λ ts. AreNoted (record { clock = 0; turns = ts }) runs) (sym fresh_turns) (record {
     own = λ n running. absurd (none_begun count n running.begun);
+    busy = λ x from some. absurd (some (ap (λ ns. get_or ns (x - 1) 0) idle ∙ zero_at workers (x - 1)));
     early = λ n begun. absurd (none_begun count n begun);
     past = λ n. omega (arith, ap (λ (turn : Turn). turn.finish) (none_turn count n));
   })
@@ -282,21 +328,17 @@ module _ (clock : ℕ) (turns : List NotedTurn) (runs : List ℕ) (v : State × 
               ∙ ap (λ (n : ℕ). pair_of (ended_at (state_of clock turns) m now) n) (length-set runs (t.worker - 1) 0)
               ∙ ap (λ (p : State × ℕ). pair_of (ended_at p.0 m now) p.1) is
 
--- where a worker runs none and a message has not begun, it can
-pub can_begin_at : (clock : ℕ) (turns : List NotedTurn) (runs : List ℕ) (v : State × ℕ) → ◌≡◌ {A = State × ℕ} (state_of clock turns, length runs) v
-    → AreNoted (state_of clock turns) runs → (x m : ℕ) → IsAmongFirst (length runs) x → IsAmongFirst (length turns) m → clock < NEVER
-    → get_or runs (x - 1) 0 ≡ 0 → (t : NotedTurn) → t ≡ get_or turns (m - 1) t → t.worker ≡ 0 → CanBegin v.0 v.1 x m
-can_begin_at clock turns runs v is h x m worker number early idle t read waits =
-    subst (λ (p : State × ℕ). CanBegin p.0 p.1 x m) is (record {
-      worker = worker;
-      free = free_at (state_of clock turns) runs x h idle;
-      number =
-          let from = number.from in
-          let to = number.to in
-          let long = length-map turns shown in
-          record { from = from; to = omega (arith, to, long) };
-      waits = λ begun.
-          let seen = ap (λ (turn : Turn). turn.worker) (ap shown read ∙ sym (turn_at clock turns m t number.from number.to)) in
-          omega (arith, begun, seen, waits);
-      early = early;
-    })
+-- a worker is free where no message is noted, and only there
+module _ (clock : ℕ) (turns : List NotedTurn) (runs : List ℕ) (v : State × ℕ) (is : ◌≡◌ {A = State × ℕ} (state_of clock turns, length runs) v)
+    (h : AreNoted (state_of clock turns) runs) (x : ℕ) (worker : IsAmongFirst (length runs) x) where
+  pub idle_free : get_or runs (x - 1) 0 ≡ 0 → IsAmongFirst v.1 x × IsFree v.0 x
+  idle_free idle = subst (λ (p : State × ℕ). IsAmongFirst p.1 x × IsFree p.0 x) is (worker, free_at (state_of clock turns) runs x h idle)
+
+  pub free_idle : IsAmongFirst v.1 x × IsFree v.0 x → get_or runs (x - 1) 0 ≡ 0
+  free_idle free = elim (cases_eq (get_or runs (x - 1) 0) 0) [
+    | inl idle ↦ idle
+    | inr busy ↦
+        let was = h.busy x worker.from busy in
+        let here = subst (λ (p : State × ℕ). IsAmongFirst p.1 x × IsFree p.0 x) (sym is) free in
+        absurd (here.1 (get_or runs (x - 1) 0) was.0 was.1)
+  ]

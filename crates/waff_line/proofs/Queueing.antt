@@ -40,7 +40,7 @@ key_by_issue course s i has = key_with course.version (measured course s) (start
 pub issue_alone : (work : Work) (start : ℕ → ℕ) (i : ℕ) → work.awaits i ≡ [] → issue_of work start i ≡ work.floor i
 issue_alone work start i none = ap (issue_after (finish_of work start) (work.floor i)) none
 
-alone : (awaits : List Await) → ((f : ℕ) → IsAwaited awaits f → ⊥) → awaits ≡ []
+pub alone : (awaits : List Await) → ((f : ℕ) → IsAwaited awaits f → ⊥) → awaits ≡ []
 alone [] none = refl
 alone (a ∷ rest) none = absurd (none a.message (inl refl))
 

@@ -1,6 +1,7 @@
 pub mod Machine
 pub mod Laws
 pub mod Lined
+pub mod Entered
 pub mod Noted
 pub mod Queued
 pub mod Scaled

@@ -1,6 +1,6 @@
 -- The line of a run: what it is of and its state, and how the order in which messages are served is kept.
-use Rattle.std.specs.Prelude.{◌≡◌, ℕ, ◌-◌, ◌<◌, ◌⊎◌, List, [], map, length, Contains}
-use Rattle.std.specs.Prelude.{◌++◌, ◌↔◌, true, slice_index, IsPermutation, if◌then◌else◌}
+use Rattle.std.specs.Prelude.{◌≡◌, ℕ, ◌-◌, ◌<◌, ◌≤◌, ◌⊎◌, List, [], map, length, Contains}
+use Rattle.std.specs.Prelude.{◌++◌, ◌↔◌, Bool, true, slice_index, IsPermutation, if◌then◌else◌}
 use Rattle.std.specs.List.{range_with_len}
 use Rattle.waff_model.specs.Tree.{Node}
 use Rattle.waff_model.specs.Versions.{has_clients}
@@ -9,7 +9,7 @@ use Rattle.waff_model.specs.declared.preorder.Span.{Span}
 use Rattle.waff_assign.specs.Held.{Held}
 use Rattle.waff_assign.specs.Order.{held_of}
 use Rattle.waff_order.specs.Joined.{Joined, HaveJoined}
-use Rattle.waff_waits.specs.Times.{AreEach}
+use Rattle.waff_waits.specs.Times.{AreEach, times}
 use Rattle.waff_waits.specs.Waits.{WhoWaits}
 use Rattle.waff_plan.specs.Awaiting.{AreAwaiting}
 use Rattle.waff_plan.specs.Due.{IsDueFirst}
@@ -20,8 +20,8 @@ use Rattle.waff_plan.specs.declared.timing.Timing.{Timing}
 use Rattle.waff_line.specs.Machine.{Course, State, HasEnded, IsIssued, finish_in, key_in}
 use Rattle.waff_line.specs.Scaled.{scaled}
 
--- a line: what it is of, with the timings of the messages in ticks and the nanoseconds of a tick for the work, and the
--- state of the machine that it is
+-- a line: what it is of, with the timings of the messages in ticks and the nanoseconds of a tick for the work, the
+-- state of the machine that it is, and whether it is over: whether it lets none begin any more
 pub record LineValue : Type 0 where
   pub version : Version
   pub tree : List Node
@@ -30,6 +30,7 @@ pub record LineValue : Type 0 where
   pub tick : ℕ
   pub workers : ℕ
   pub state : State
+  pub over : Bool
 
 -- what a line is of
 abbrev pub course_in : LineValue → Course
@@ -75,12 +76,13 @@ pub record IsLined (course : Course) (s : State) (spans : List Span) (joining : 
 abbrev pub first_joined : Version → ℕ → List ℕ
 first_joined version count = if has_clients version then [] else range_with_len 1 count
 
--- of the first n messages those that await none are due at their floors, and no others
+-- of the first n messages those that await none are due at their floors, each once, and no others
 pub record AreFirstDue (work : Work) (n : ℕ) (due : List (ℕ × ℕ)) : Type 0 where
   pub number : (r : ℕ × ℕ) → Contains due r → IsAmongFirst n r.1
   pub floor : (r : ℕ × ℕ) → Contains due r → r.0 ≡ work.floor r.1
   pub alone : (r : ℕ × ℕ) → Contains due r → work.awaits r.1 ≡ []
   pub all : (m : ℕ) → IsAmongFirst n m → work.awaits m ≡ [] → Contains due (work.floor m, m)
+  pub once : (m : ℕ) → times m (map (λ r. r.1) due) ≤ 1
 
 -- each message waits for those that it awaits and that have not ended
 pub record IsAwaiting (work : Work) (s : State) (w : WhoWaits) : Type 0 where

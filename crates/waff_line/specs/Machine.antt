@@ -117,6 +117,10 @@ pub record MayBegin (course : Course) (s : State) (x n : ℕ) : Type 0 where
   pub come : HasCome course.version (issue_in course s n) s.clock
   pub clear : IsClear course s n
 
+-- no message may begin on worker x
+abbrev pub NobodyMayBegin : Course → State → ℕ → Type 0
+NobodyMayBegin course s x = (n : ℕ) → MayBegin course s x n → ⊥
+
 -- the state with another turn of message n
 abbrev pub with_turn : State → ℕ → Turn → State
 with_turn s n turn = record { clock = s.clock; turns = slice_set s.turns (n - 1) turn }

@@ -1,34 +1,27 @@
 //! The line and its events.
 
-ghost use Rattle.std.specs.Prelude.{◌≡◌, map, IfOk, MatchOption, MatchResult};
+ghost use Rattle.std.specs.Prelude.{◌≡◌, false, true, map, IfOk, MatchOption, MatchResult};
 ghost use Rattle.waff_plan.specs.Timetable.{work_of_messages};
 ghost use Rattle.waff_line.specs.Lined.{course_in};
-ghost use Rattle.waff_line.specs.Machine.{IsRunning, Steps, opening};
+ghost use Rattle.waff_line.specs.Machine.{IsRunning, NobodyMayBegin, Steps, opening};
 ghost use Rattle.waff_line.specs.Noted.{shown};
 ghost use Rattle.waff_line.specs.Scaled.{scaled};
 ghost use Rattle.waff_line.specs.declared.event.Event.TheVariants.{Begin, End, Tell};
 ghost use Rattle.waff_line.specs.declared.queue.Ended.TheVariants.{NotRunning};
 
 use crate::notes::Notes;
-use crate::queue::{Ended, Queue};
+use crate::queue::{Ended, Over, Queue};
 use crate::turn::Turn;
-use crate::waiting::Waiting;
 use std::alloc::{AllocError, Global};
 use std::marker::Model;
 use waff_assign::Case;
 
-/// The line proposed a message that may not begin, or will let none begin any more: memory was refused, or a message
-/// ran for too long. Nothing has changed. No clause says that the line proposes well, so a run that meets this has to stop.
-#[derive(Clone, Copy)]
-pub struct Unready;
-
-/// The line of a run. Messages are numbered from 1, workers from 1. Contracts see what it is of, and its state:
-/// one that the machine reaches by events.
+/// The line of a run. Messages are numbered from 1, workers from 1. Contracts see what it is of, its state: one that the
+/// machine reaches by events, and whether it is over.
 #[derive(Drop)]
 pub struct Line<'a> {
     queue: Queue<'a>,
     notes: Notes,
-    hints: Waiting,
     /// How many messages have not begun.
     waiting: u32,
     /// How many have ended.
@@ -59,12 +52,12 @@ impl<'a> Line<'a> {
           workers = workers;
         }) }
         ensures opening { IfOk result (λ line. line.state ≡ opening (course_in line)) }
+        ensures going { IfOk result (λ line. line.over ≡ false) }
     {
         let count = case.trace.len();
         Ok(Line {
-            queue: Queue::of(alloc, case, tick)?,
+            queue: Queue::of(alloc, case, workers, tick)?,
             notes: Notes::none(alloc, count as usize, workers)?,
-            hints: Waiting::none(alloc, count as usize, workers)?,
             waiting: count,
             ended: 0,
         })
@@ -90,13 +83,13 @@ impl<'a> Line<'a> {
 
     /// Whether a message waits for nothing but a worker.
     pub fn is_ready(&self) -> bool {
-        self.hints.is_ready()
+        self.queue.waiting.is_ready()
     }
 
-    /// The time from which on the next message joins, or `NEVER` where none is known. By issue that is a nanosecond
+    /// The time from which on the next message may begin, as far as it is known, or `NEVER`. By issue that is a nanosecond
     /// behind its issue: all that are issued at once are known then.
     pub fn next(&self) -> u64 {
-        let issue = self.queue.next();
+        let issue = self.queue.due.next();
         if self.queue.case.trace.version().has_clients() {
             issue.saturating_add(1)
         } else {
@@ -104,33 +97,24 @@ impl<'a> Line<'a> {
         }
     }
 
-    /// The next message joins, where one may. Whether one did. Nothing of it is seen: to the machine it is
-    /// issued.
-    pub fn join(&mut self) -> Result<bool, AllocError>
-        ensures { self.new ≡ self.old }
-    {
-        let Some(joined) = self.queue.join(&self.notes)? else {
-            return Ok(false);
-        };
-        self.hints.enter(&self.queue.order, &self.notes, joined)?;
-        Ok(true)
-    }
-
-    /// The first message that is ready begins on this worker, which has to be free.
-    pub fn begin(&mut self, worker: u32) -> Result<Option<u32>, Unready>
+    /// The first message that is ready begins on this worker, where it is free. None does where no message may.
+    pub fn begin(&mut self, worker: u32) -> Result<Option<u32>, Over>
         ensures course { course_in self.new ≡ course_in self.old }
         ensures begun { MatchResult result
-            (λ begun. MatchOption begun (self.new ≡ self.old)
+            (λ begun. MatchOption begun ((self.new ≡ self.old)
+            × NobodyMayBegin (course_in self.old) self.old.state worker)
             (λ m. Steps (course_in self.old) self.old.state (Begin worker m) self.new.state))
-            (λ _. self.new ≡ self.old) }
+            (λ _. (self.new.state ≡ self.old.state) × (self.new.over ≡ true)) }
     {
-        let Some(place) = self.hints.first_ready() else {
+        self.queue.join_all(&self.notes)?;
+        if !self.notes.is_free(worker) {
+            return Ok(None);
+        }
+        let Some(m) = self.queue.waiting.pop() else {
             return Ok(None);
         };
-        let Some(m) = self.queue.may_begin(&self.notes, worker, place) else {
-            return Err(Unready);
-        };
-        let (after, late) = self.hints.lateness(worker, m, self.notes.clock());
+        let clock = self.notes.clock();
+        let (after, late) = self.queue.waiting.lateness(worker, m, clock);
         self.notes.begin(worker, m, after, late);
         self.waiting = self.waiting.saturating_sub(1);
         Ok(Some(m))
@@ -148,11 +132,8 @@ impl<'a> Line<'a> {
         if turn.worker == 0 || turn.ended {
             return Ok(Ended::NotRunning);
         }
-        let ended = self.queue.end(&mut self.notes, m, now)?;
         self.ended = self.ended.saturating_add(1);
-        let finish = self.notes.turn(m).finish;
-        self.hints.end(turn.worker, m, finish)?;
-        Ok(ended)
+        self.queue.end(&mut self.notes, m, now)
     }
 
     /// What was noted of each message, in the order of the numbers.

@@ -1,13 +1,13 @@
 //! What has happened so far: the time, the turns of the messages, and which one each worker runs.
 
-ghost use Rattle.std.specs.Prelude.{◌≡◌, ℕ, ◌≤◌, replicate, true, map, IfOk};
-ghost use Rattle.waff_line.specs.Machine.{IsRunning, begun_on, ended_at, finish_at, no_turn, told, turn_of};
+ghost use Rattle.std.specs.Prelude.{◌≡◌, ◌↔◌, ℕ, ◌≤◌, replicate, map, IfOk, IsTrue};
+ghost use Rattle.waff_model.specs.Numbers.{IsAmongFirst};
+ghost use Rattle.waff_line.specs.Machine.{IsFree, IsRunning, begun_on, ended_at, finish_at, no_turn, told, turn_of};
 ghost use Rattle.waff_line.specs.Noted.{CanBegin, shown};
 
 use crate::turn::Turn;
 use std::alloc::{AllocError, Global};
 use std::marker::Model;
-use waff_plan::NEVER;
 
 /// The clock, the turns of the messages, and which message each worker runs. Contracts see the state of the
 /// machine, and how many workers there are.
@@ -78,19 +78,15 @@ impl Notes {
         self.clock = self.clock.max(now);
     }
 
-    /// Whether this worker is free, and message `m` has not begun.
-    pub fn can_begin(&self, worker: u32, m: u32) -> bool
-        ensures { result ≡ true → CanBegin self.now.0 self.now.1 worker m }
+    /// Whether this is one of the workers, and no message runs on it.
+    pub fn is_free(&self, worker: u32) -> bool
+        ensures { IsTrue result
+            ↔ (IsAmongFirst self.now.1 worker × IsFree self.now.0 worker) }
     {
         if worker == 0 || worker as usize > self.runs.len() {
             return false;
         }
-        if m == 0 || m as usize > self.turns.len() || self.clock >= NEVER {
-            return false;
-        }
-        let run = self.runs[worker as usize - 1];
-        let turn = self.turns[m as usize - 1];
-        run == 0 && turn.worker == 0
+        self.runs[worker as usize - 1] == 0
     }
 
     /// Message `m` begins on this worker. What is told of it later: the message that it had to wait for, and how

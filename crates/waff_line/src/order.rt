@@ -1,17 +1,16 @@
 //! The order in which messages that exclude each other are served.
 
-ghost use Rattle.std.specs.Prelude.{◌≡◌, ◌≤◌, ℕ, List, [], ◌∷◌, ◌++◌, length, true, IfOk, OnOk};
+ghost use Rattle.std.specs.Prelude.{◌≡◌, ◌≤◌, ℕ, List, [], ◌∷◌, ◌++◌, length, false, true, IfOk, OnOk};
 ghost use Rattle.waff_model.specs.Numbers.{IsAmongFirst};
 ghost use Rattle.waff_model.specs.Tree.{Node};
+ghost use Rattle.waff_model.specs.Versions.{has_clients};
 ghost use Rattle.waff_model.specs.declared.limits.TheConstants.{MAX_MESSAGES};
 ghost use Rattle.waff_assign.specs.Held.{Held, IsHeldWithin};
 ghost use Rattle.waff_assign.specs.Order.{held_of};
 ghost use Rattle.waff_order.specs.Joined.{HaveJoined, IsJoined};
-ghost use Rattle.waff_order.specs.Needs.{IsNeed};
+ghost use Rattle.waff_line.specs.Entered.{JoinsLast, needs_at};
 ghost use Rattle.waff_line.specs.Lined.{served_at};
-ghost use Rattle.waff_line.specs.Machine.{HasEnded};
 
-use crate::notes::Notes;
 use std::alloc::{AllocError, Global};
 use waff_assign::{Assigned, Case};
 use waff_model::Span;
@@ -53,6 +52,8 @@ impl<'a> Order<'a> {
         ensures joined { OnOk result ((tree : List Node) (held : List Held)
             → HaveJoined tree self.old.spans.now held self.old.joining
             → HaveJoined tree self.old.spans.now (held ++ held_of assigned.now m ∷ []) self.new.joining) }
+        ensures listed { OnOk result ((list : List ℕ)
+            × (self.new.joining.needs ≡ self.old.joining.needs ++ list ∷ [])) }
         ensures few { OnOk result (length self.new.messages.items ≤ MAX_MESSAGES) }
     {
         if self.messages.len() >= MAX_MESSAGES {
@@ -74,26 +75,33 @@ impl<'a> Order<'a> {
         self.messages[at]
     }
 
-    /// Whether each need of the message at this place has ended.
-    pub fn is_clear(&self, notes: &Notes, place: u32) -> bool
-        requires { IsAmongFirst (length self.now.joining.needs) place }
-        ensures { result ≡ true → (k : ℕ) → IsNeed self.now.joining.needs k place
-            → HasEnded notes.now.0 (served_at self.now.messages.items k) }
+    /// Message `m` of the case, whose issue has come, has its place: by issue it joins as the last one, by number it has
+    /// joined before. After an error the order is good for nothing.
+    pub fn place(&mut self, case: &Case<'a>, m: u32) -> Result<u32, AllocError>
+        requires number { IsAmongFirst (length case.now.assigned.now) m }
+        requires known { IsHeldWithin (length self.old.spans.now) (held_of case.now.assigned.now m) }
+        requires joined { IsJoined self.old.spans.now self.old.joining }
+        requires count { length self.old.joining.needs ≡ length self.old.messages.items }
+        ensures spans { self.new.spans.now ≡ self.old.spans.now }
+        ensures by_issue { has_clients case.now.trace.now.version ≡ true
+            → IfOk result (JoinsLast self.old m (held_of case.now.assigned.now m) self.new) }
+        ensures by_number { has_clients case.now.trace.now.version ≡ false
+            → IfOk result (λ place. (place ≡ m) × (self.new ≡ self.old)) }
     {
-        for need in self.joining.of(place) {
-            if !notes.turn(self.message(*need)).ended {
-                return false;
-            }
+        if !case.trace.version().has_clients() {
+            return Ok(m);
         }
-        true
+        self.join(case.assigned, m)?;
+        Ok(self.messages.len() as u32)
     }
 
     /// Writes the needs of the message at this place to the list, by number.
-    pub fn list_needs(&self, place: u32, list: &mut Vec<u32>) -> Result<(), AllocError> {
+    pub fn list_needs(&self, place: u32, list: &mut Vec<u32>) -> Result<(), AllocError>
+        requires { IsAmongFirst (length self.now.joining.needs) place }
+        ensures { OnOk result (list.new.items
+            ≡ needs_at self.now.messages.items self.now.joining.needs place) }
+    {
         list.clear();
-        if place == 0 || place as usize > self.joining.len() {
-            return Ok(());
-        }
         for need in self.joining.of(place) {
             list.push(self.message(*need))?;
         }

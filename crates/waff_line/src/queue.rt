@@ -1,6 +1,6 @@
 //! Which messages are due, which have joined the order of service, and what is issued when one ends.
 
-ghost use Rattle.std.specs.Prelude.{◌≡◌, ◌-◌, ◌*◌, ◌≤◌, ℕ, length, map, false, All, IfOk, IfSome, OnOk};
+ghost use Rattle.std.specs.Prelude.{◌≡◌, ◌-◌, ◌*◌, ◌<◌, ◌≤◌, ℕ, length, map, false, All, IfOk, OnErr, OnOk, MatchOption};
 ghost use Rattle.std.specs.Prelude.{[], true, Contains, slice_set};
 ghost use Rattle.waff_assign.specs.Order.{held_of};
 ghost use Rattle.waff_order.specs.Joined.{HaveJoined};
@@ -8,22 +8,25 @@ ghost use Rattle.waff_model.specs.Numbers.{IsAmongFirst};
 ghost use Rattle.waff_model.specs.Versions.{has_clients};
 ghost use Rattle.waff_plan.specs.Timetable.{timings_of};
 ghost use Rattle.waff_plan.specs.Timing.{IsTiming, work_of};
-ghost use Rattle.waff_line.specs.Machine.{IsRunning, MayBegin, Reaches, ended_at, opening};
-ghost use Rattle.waff_line.specs.Noted.{CanBegin};
+ghost use Rattle.waff_line.specs.Machine.{HasCome, IsRunning, Reaches, ended_at, opening};
+ghost use Rattle.waff_line.specs.Entered.{HaveNoneCome};
 ghost use Rattle.waff_line.specs.Lined.{AreFirstDue, AreOpened, first_joined, issue_noted};
 ghost use Rattle.waff_line.specs.Queued.{IsQueue, course_of};
 ghost use Rattle.waff_line.specs.Scaled.{scaled};
 ghost use Rattle.waff_line.specs.declared.queue.TheConstants.{MAX_TIME};
+ghost use Rattle.waff_plan.specs.Due.{LeavesDue};
+ghost use Rattle.waff_plan.specs.declared.due.TheConstants.{NEVER};
 ghost use Rattle.waff_model.specs.declared.limits.TheConstants.{MAX_MESSAGES};
 ghost use Rattle.waff_waits.specs.Waits.{IsFree, waiting_for};
 
 use crate::notes::Notes;
 use crate::order::Order;
+use crate::waiting::Waiting;
 use std::alloc::{AllocError, Global};
 use std::cmp::Reverse;
 use waff_assign::Case;
-use waff_model::Await;
 use waff_model::limits::{MAX_COST, MAX_TICK, MAX_WORKERS};
+use waff_model::{Await, Version};
 use waff_plan::awaiting::awaiting;
 use waff_plan::{Due, NEVER, Timing, timings};
 use waff_waits::Waits;
@@ -43,6 +46,10 @@ pub enum Ended {
     /// It did not run, so nothing has changed.
     NotRunning,
 }
+
+/// Nothing joins or begins any more: memory was refused, a message ran for too long, or the clock is at its end.
+#[derive(Clone, Copy, Debug, PartialEq)]
+pub struct Over;
 
 /// A message that has joined: its issue in nanoseconds, and its place in the order of service, from 1.
 #[derive(Clone, Copy)]
@@ -67,24 +74,28 @@ pub(crate) struct Queue<'a> {
     pub order: Order<'a>,
     /// The messages whose issue is known and that have not joined.
     pub due: Due,
-    /// Nothing joins or begins any more: memory was refused, or a message ran for too long.
+    /// What the messages that have joined wait for.
+    pub waiting: Waiting,
+    /// Nothing joins or begins any more: memory was refused, a message ran for too long, or the clock is at its end.
     pub is_over: bool,
 }
 
 impl<'a> Queue<'a> {
     /// The queue of a case before anything has happened. A tick is so many nanoseconds.
-    pub fn of(alloc: Global, case: Case<'a>, tick: u32) -> Result<Self, AllocError>
+    pub fn of(alloc: Global, case: Case<'a>, workers: u32, tick: u32) -> Result<Self, AllocError>
         ensures case { IfOk result (λ queue. queue.case ≡ case.entry) }
         ensures timings { IfOk result (λ queue.
             queue.timings.items ≡ timings_of case.entry.trace.now.messages) }
         ensures tick { IfOk result (λ queue. queue.tick ≡ tick) }
         ensures queue { IfOk result (λ queue.
             (workers : ℕ) → IsQueue queue workers (opening (course_of queue workers))) }
+        ensures going { IfOk result (λ queue. queue.is_over ≡ false) }
     {
         let timings = timings(alloc, case.trace)?;
         let awaits = awaiting(alloc, timings.as_slice())?;
         let due = first_due(alloc, timings.as_slice(), tick)?;
         let order = first_order(alloc, &case)?;
+        let waiting = Waiting::none(alloc, timings.len(), workers)?;
         Ok(Queue {
             case,
             timings,
@@ -92,79 +103,69 @@ impl<'a> Queue<'a> {
             awaits,
             order,
             due,
+            waiting,
             is_over: false,
         })
     }
 
-    /// The time at which the next message is due, or `NEVER` where none is known.
-    pub fn next(&self) -> u64 {
-        self.due.next()
-    }
-
-    /// The next message joins, where its issue has come.
-    pub fn join(&mut self, notes: &Notes) -> Result<Option<Joined>, AllocError>
+    /// The messages whose issue has come join, one after another.
+    pub fn join_all(&mut self, notes: &Notes) -> Result<(), Over>
         requires { IsQueue self.old notes.now.1 notes.now.0 }
         ensures case { self.new.case ≡ self.old.case }
         ensures timings { self.new.timings.items ≡ self.old.timings.items }
         ensures tick { self.new.tick ≡ self.old.tick }
         ensures queue { IsQueue self.new notes.now.1 notes.now.0 }
+        ensures going { OnOk result (self.old.is_over ≡ false) }
+        ensures goes_on { OnOk result (self.new.is_over ≡ false) }
+        ensures early { OnOk result (notes.now.0.clock < NEVER) }
+        ensures over { OnErr result (self.new.is_over ≡ true) }
+        ensures none { OnOk result (HaveNoneCome self.new.case.trace.now.version notes.now.0.clock self.new.due) }
     {
-        if self.is_over {
-            return Ok(None);
-        }
-        if self.case.trace.version().has_clients() {
-            self.join_by_issue(notes)
-        } else {
-            Ok(take_due(&mut self.due, notes.clock()))
+        loop {
+            if !self.join(notes)? {
+                return Ok(());
+            }
         }
     }
 
-    /// By issue a message joins a nanosecond after its issue: all that are issued with it are known then.
-    fn join_by_issue(&mut self, notes: &Notes) -> Result<Option<Joined>, AllocError>
-        requires queue { IsQueue self.old notes.now.1 notes.now.0 }
-        requires clients { has_clients self.old.case.trace.now.version ≡ true }
-        requires going { self.old.is_over ≡ false }
+    /// The next message joins, where its issue has come. Whether one did.
+    fn join(&mut self, notes: &Notes) -> Result<bool, Over>
+        requires { IsQueue self.old notes.now.1 notes.now.0 }
         ensures case { self.new.case ≡ self.old.case }
         ensures timings { self.new.timings.items ≡ self.old.timings.items }
         ensures tick { self.new.tick ≡ self.old.tick }
         ensures queue { IsQueue self.new notes.now.1 notes.now.0 }
+        ensures going { OnOk result (self.old.is_over ≡ false) }
+        ensures goes_on { OnOk result (self.new.is_over ≡ false) }
+        ensures early { OnOk result (notes.now.0.clock < NEVER) }
+        ensures over { OnErr result (self.new.is_over ≡ true) }
+        ensures fewer { IfOk result (λ joined. joined ≡ true
+            → length self.new.due < length self.old.due) }
+        ensures none { IfOk result (λ joined. joined ≡ false
+            → HaveNoneCome self.new.case.trace.now.version notes.now.0.clock self.new.due) }
     {
-        let clock = notes.clock();
-        if clock == 0 {
-            return Ok(None);
+        if self.is_over || notes.clock() == NEVER {
+            self.is_over = true;
+            return Err(Over);
         }
-        let Some((issue, message)) = self.due.pop_by(clock - 1) else {
-            return Ok(None);
+        let version = self.case.trace.version();
+        let Some((issue, message)) = take_come(&mut self.due, version, notes.clock()) else {
+            return Ok(false);
         };
         self.is_over = true;
-        self.order.join(self.case.assigned, message)?;
-        self.is_over = false;
-        Ok(Some(Joined {
+        let Ok(place) = self.order.place(&self.case, message) else {
+            return Err(Over);
+        };
+        let joined = Joined {
             issue,
             message,
-            place: self.order.messages.len() as u32,
-        }))
-    }
-
-    /// The message at this place of the order, if it may begin on this worker.
-    pub fn may_begin(&self, notes: &Notes, worker: u32, place: u32) -> Option<u32>
-        requires queue { IsQueue self.now notes.now.1 notes.now.0 }
-        requires reached { Reaches (course_of self.now notes.now.1) notes.now.0 }
-        ensures { IfSome result (λ m. CanBegin notes.now.0 notes.now.1 worker m
-            × MayBegin (course_of self.now notes.now.1) notes.now.0 worker m) }
-    {
-        if self.is_over || place == 0 || place as usize > self.order.messages.len() {
-            return None;
-        }
-        let m = self.order.message(place);
-        if nanos(self.timings[m as usize - 1].floor, self.tick) > notes.clock() {
-            return None;
-        }
-        if notes.can_begin(worker, m) && self.order.is_clear(notes, place) {
-            Some(m)
-        } else {
-            None
-        }
+            place,
+        };
+        let Ok(()) = self.waiting.enter(&self.order, notes, joined) else {
+            return Err(Over);
+        };
+        self.is_over = false;
+        Ok(true)
     }
 
     /// Message `m`, which runs, ends at this time. Those that await nothing more have their issues then.
@@ -180,9 +181,9 @@ impl<'a> Queue<'a> {
     {
         let was_over = self.is_over;
         self.is_over = true;
-        let start = notes.turn(m).start;
+        let turn = notes.turn(m);
         let finish = notes.end(m, now);
-        if finish - start > nanos(MAX_COST, self.tick) || finish > latest(self.tick) {
+        if finish - turn.start > nanos(MAX_COST, self.tick) || finish > latest(self.tick) {
             return Ok(Ended::TooLong);
         }
         if was_over {
@@ -196,22 +197,26 @@ impl<'a> Queue<'a> {
             &mut self.due,
             m,
         )?;
+        self.waiting.finish(turn.worker, m, finish)?;
         self.is_over = false;
         Ok(Ended::Well)
     }
 }
 
-/// By number all have joined the order before: the next message is due.
-fn take_due(due: &mut Due, clock: u64) -> Option<Joined> {
-    if clock == NEVER {
+/// Takes out the message that is due first, with its issue, if that has come. Among those of clients that is a nanosecond
+/// after the issue: all that are issued with it are known then.
+fn take_come(due: &mut Due, version: Version, clock: u64) -> Option<(u64, u32)>
+    requires { clock < NEVER }
+    ensures { MatchOption result ((due.new ≡ due.old) × HaveNoneCome version clock due.old)
+        (λ r. HasCome version r.0 clock × LeavesDue due.old r due.new) }
+{
+    if !version.has_clients() {
+        return due.pop_by(clock);
+    }
+    if clock == 0 {
         return None;
     }
-    let (issue, message) = due.pop_by(clock)?;
-    Some(Joined {
-        issue,
-        message,
-        place: message,
-    })
+    due.pop_by(clock - 1)
 }
 
 /// Message `m` has ended: those that await nothing more are due at their issues.

@@ -1,12 +1,19 @@
-//! What joined messages wait for. It only proposes who begins next: the line looks itself before one does.
+//! What the messages that have joined wait for, and which ones are ready: they wait for nothing but a worker.
 
-use crate::dependents::{Dependents, at};
+ghost use Rattle.std.specs.Prelude.{◌≡◌, ◌-◌, ℕ, List, [], ◌∷◌, ◌++◌, replicate, false, true};
+ghost use Rattle.std.specs.Prelude.{length, All, Contains, IfOk, IsPermutation, MatchOption, OnOk, slice_set};
+ghost use Rattle.waff_model.specs.Numbers.{IsAmongFirst};
+ghost use Rattle.waff_line.specs.Entered.{IsReadied, needs_at, ready_in};
+ghost use Rattle.waff_waits.specs.Times.{AreEach};
+ghost use Rattle.waff_waits.specs.Waits.{Enters, IsFree, waiting_for};
+
 use crate::notes::Notes;
 use crate::order::Order;
 use crate::queue::Joined;
 use std::alloc::{AllocError, Global};
 use std::cmp::Reverse;
 use std::collections::BinaryHeap;
+use waff_waits::Waits;
 
 /// Of some messages the one that finished last, of several that of the lowest number; 0 where there is none.
 #[derive(Clone, Copy)]
@@ -34,92 +41,129 @@ impl Last {
     }
 }
 
-/// What a message waits for.
+/// What is told of a message when it begins.
 #[derive(Clone, Copy)]
 struct Wait {
     /// Its place in the order of service, from 1; 0 as long as it has not joined.
     place: u32,
-    /// How many of its needs have not finished.
-    left: u32,
     /// The one of its needs that finished last.
     last: Last,
     /// Since when it could begin but for a worker.
     since: u64,
 }
 
-/// What the messages wait for, and which ones wait for nothing but a worker.
+/// What the messages wait for, and which ones are ready.
 #[derive(Drop)]
 pub(crate) struct Waiting {
-    waits: Vec<Wait>,
-    dependents: Dependents,
-    /// The places of those that have joined and wait for nothing but a worker.
-    ready: BinaryHeap<Reverse<u32>>,
+    /// Who waits for whom, of the messages that have joined.
+    pub waits: Waits,
+    /// Those that wait for nothing but a worker, by their places.
+    pub ready: BinaryHeap<Reverse<(u32, u32)>>,
     /// The needs of the message that joins, by number.
     needs: Vec<u32>,
+    told: Vec<Wait>,
     /// The finish of the last message of each worker.
     frees: Vec<u64>,
 }
 
 impl Waiting {
-    /// No message has joined, and there is room for `count` of them.
-    pub fn none(alloc: Global, count: usize, workers: u32) -> Result<Self, AllocError> {
+    /// None of `count` messages has joined.
+    pub fn none(alloc: Global, count: usize, workers: u32) -> Result<Self, AllocError>
+        ensures waits { IfOk result (λ waiting. waiting.waits ≡ record {
+          awaited = replicate count [];
+          finished = replicate count false;
+        }) }
+        ensures ready { IfOk result (λ waiting. ready_in waiting ≡ []) }
+    {
         let wait = Wait {
             place: 0,
-            left: 0,
             last: Last::none(),
             since: 0,
         };
         Ok(Waiting {
-            waits: vec![in alloc; wait; count]?,
-            dependents: Dependents::none(alloc, count)?,
+            waits: Waits::none(alloc, count)?,
             ready: BinaryHeap::with_capacity(alloc, count)?,
-            needs: Vec::with_capacity(alloc, count)?,
+            needs: Vec::new(alloc),
+            told: vec![in alloc; wait; count]?,
             frees: vec![in alloc; 0; workers as usize]?,
         })
     }
 
-    /// Whether a message waits for nothing but a worker.
+    /// Whether a message is ready.
     pub fn is_ready(&self) -> bool {
         !self.ready.is_empty()
     }
 
     /// A message that has joined waits for those of its needs that have not ended.
-    pub fn enter(
-        &mut self,
-        order: &Order,
-        notes: &Notes,
-        joined: Joined,
-    ) -> Result<(), AllocError> {
+    pub fn enter(&mut self, order: &Order, notes: &Notes, joined: Joined) -> Result<(), AllocError>
+        requires place { IsAmongFirst (length order.now.joining.needs) joined.place }
+        requires number { IsAmongFirst (length self.old.waits.awaited) joined.message }
+        requires needs { All (IsAmongFirst (length self.old.waits.awaited))
+            (needs_at order.now.messages.items order.now.joining.needs joined.place) }
+        ensures enters { OnOk result (Enters self.old.waits joined.message
+            (needs_at order.now.messages.items order.now.joining.needs joined.place) self.new.waits) }
+        ensures ready { OnOk result (IsReadied self.new.waits joined.message
+            (ready_in self.old) (ready_in self.new)) }
+    {
         order.list_needs(joined.place, &mut self.needs)?;
-        let mut left = 0u32;
+        self.note(notes, joined);
+        let is_free = self.waits.enter(joined.message, self.needs.as_slice())?;
+        if is_free {
+            self.push(joined.message)?;
+        }
+        Ok(())
+    }
+
+    /// Notes what is told later of a message that joins, by those of its needs that have ended.
+    fn note(&mut self, notes: &Notes, joined: Joined)
+        ensures waits { self.new.waits ≡ self.old.waits }
+        ensures ready { ready_in self.new ≡ ready_in self.old }
+        ensures needs { self.new.needs.items ≡ self.old.needs.items }
+    {
         let mut last = Last::none();
         for need in self.needs.iter() {
             let turn = notes.turn(*need);
             if turn.ended {
                 last = last.or(*need, turn.finish);
-            } else {
-                self.dependents.add(*need, joined.message)?;
-                left = left.saturating_add(1);
             }
         }
-        if let Some(wait) = self.waits.get_mut(at(joined.message)) {
+        if let Some(wait) = self.told.get_mut(at(joined.message)) {
             *wait = Wait {
                 place: joined.place,
-                left,
                 last,
                 since: joined.issue.max(last.finish),
             };
         }
-        if left == 0 {
-            self.ready.push(Reverse(joined.place))?;
-        }
+    }
+
+    /// Message `m`, which waits for nothing but a worker, is ready.
+    fn push(&mut self, m: u32) -> Result<(), AllocError>
+        ensures ready { OnOk result (IsPermutation (m ∷ ready_in self.old) (ready_in self.new)) }
+        ensures waits { OnOk result (self.new.waits ≡ self.old.waits) }
+    {
+        let place = self.place(m);
+        self.ready.push(Reverse((place, m)))?;
         Ok(())
     }
 
-    /// The first place of those that wait for nothing but a worker.
-    pub fn first_ready(&mut self) -> Option<u32> {
-        let Reverse(place) = self.ready.pop()?;
-        Some(place)
+    /// The place of message `m` in the order of service.
+    fn place(&self, m: u32) -> u32 {
+        match self.told.get(at(m)) {
+            Some(wait) => wait.place,
+            None => 0,
+        }
+    }
+
+    /// Takes out the message that is ready at the first place.
+    pub fn pop(&mut self) -> Option<u32>
+        ensures ready { MatchOption result ((ready_in self.old ≡ []) × (ready_in self.new ≡ []))
+            (λ m. IsPermutation (ready_in self.old) (m ∷ ready_in self.new)) }
+        ensures waits { self.new.waits ≡ self.old.waits }
+    {
+        match self.ready.pop() {
+            Some(Reverse((_, m))) => Some(m),
+            None => None,
+        }
     }
 
     /// Of message `m`, which begins on this worker by this clock, the need that finished last, and how late it
@@ -129,7 +173,7 @@ impl Waiting {
             Some(free) => *free,
             None => 0,
         };
-        match self.waits.get(at(m)) {
+        match self.told.get(at(m)) {
             Some(wait) => (
                 wait.last.message,
                 clock.saturating_sub(wait.since.max(free)),
@@ -139,34 +183,51 @@ impl Waiting {
     }
 
     /// Message `m` has finished on this worker: those that wait for it wait for it no more.
-    pub fn end(&mut self, worker: u32, m: u32, finish: u64) -> Result<(), AllocError> {
-        if let Some(free) = self.frees.get_mut(at(worker)) {
-            *free = finish;
+    pub fn finish(&mut self, worker: u32, m: u32, finish: u64) -> Result<(), AllocError>
+        requires number { IsAmongFirst (length self.old.waits.awaited) m }
+        ensures waits { OnOk result (self.new.waits ≡ record {
+          awaited = slice_set self.old.waits.awaited (m - 1) [];
+          finished = slice_set self.old.waits.finished (m - 1) true;
+        }) }
+        ensures ready { OnOk result ((entered begun : List ℕ)
+            → ((d : ℕ) → Contains (waiting_for self.old.waits m) d → Contains entered d)
+            → AreEach (IsFree entered self.old.waits) (begun ++ ready_in self.old)
+            → AreEach (IsFree entered self.new.waits) (begun ++ ready_in self.new)) }
+    {
+        while let Some((waiter, is_free)) = self.waits.let_go(m) {
+            self.tell(waiter, m, finish);
+            if is_free {
+                self.push(waiter)?;
+            }
         }
-        let mut number = self.dependents.first(m);
-        while number > 0 {
-            let Some((message, next)) = self.dependents.link(number) else {
-                return Ok(());
-            };
-            self.tell(message, m, finish)?;
-            // Links go to earlier ones, so that a trail ends.
-            number = if next < number { next } else { 0 };
-        }
+        self.waits.finish(m);
+        self.free(worker, finish);
         Ok(())
     }
 
-    /// This message waits for message `m`, which has finished, no more.
-    fn tell(&mut self, message: u32, m: u32, finish: u64) -> Result<(), AllocError> {
-        let Some(wait) = self.waits.get_mut(at(message)) else {
-            return Ok(());
-        };
-        wait.left = wait.left.saturating_sub(1);
-        wait.last = wait.last.or(m, finish);
-        wait.since = wait.since.max(finish);
-        if wait.left == 0 {
-            let place = wait.place;
-            self.ready.push(Reverse(place))?;
+    /// The worker is free from this time on.
+    fn free(&mut self, worker: u32, finish: u64)
+        ensures waits { self.new.waits ≡ self.old.waits }
+        ensures ready { ready_in self.new ≡ ready_in self.old }
+    {
+        if let Some(free) = self.frees.get_mut(at(worker)) {
+            *free = finish;
         }
-        Ok(())
     }
+
+    /// One of the needs of message `waiter`, message `m`, has finished.
+    fn tell(&mut self, waiter: u32, m: u32, finish: u64)
+        ensures waits { self.new.waits ≡ self.old.waits }
+        ensures ready { ready_in self.new ≡ ready_in self.old }
+    {
+        if let Some(wait) = self.told.get_mut(at(waiter)) {
+            wait.last = wait.last.or(m, finish);
+            wait.since = wait.since.max(finish);
+        }
+    }
+}
+
+/// The place of what is numbered from 1.
+fn at(number: u32) -> usize {
+    (number as usize).wrapping_sub(1)
 }

@@ -8,7 +8,7 @@ use Rattle.std.proofs.lemmas.List.Elements.{All-get_or}
 use Rattle.std.proofs.lemmas.Option.{none-some}
 use Rattle.waff_model.specs.Numbers.{IsAmongFirst}
 use Rattle.waff_line.specs.Laws.{AreAllEnded}
-use Rattle.waff_line.specs.Machine.{Course, HasBegun, HasEnded, IsRunning, State, Steps, Turn, ended_turn, finish_at, no_turn, opening, told, turn_of}
+use Rattle.waff_line.specs.Machine.{Course, HasBegun, IsRunning, State, Steps, Turn, ended_turn, finish_at, no_turn, opening, told, turn_of}
 use Rattle.waff_line.specs.declared.event.Event.TheVariants.{Begin, End}
 use Rattle.waff_line.proofs.Turns.{none_begun, none_ended, turn_other, turn_same, turns_as_many}
 use Rattle.waff_run.specs.Asked.{Access}

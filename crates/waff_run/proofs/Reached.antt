@@ -1,6 +1,6 @@
 -- The state of the line of a run, as its threads share it: events led to it.
 use Rattle.std.proofs.Common.{◌≡◌, ℕ, zero, suc, ◌<◌, ◌≤◌, inl, inr, true, false, List, [], ◌∷◌, ◌++◌, length, map, get_or, refl, ap, sym, ◌∙◌, subst, arith}
-use Rattle.std.specs.Prelude.{All, MatchOption, MatchResult, Option, None, Some, Result, Ok, Err}
+use Rattle.std.specs.Prelude.{All, MatchOption, MatchResult, Option, Some, Result, Ok}
 use Rattle.std.proofs.lemmas.Bool.{cases_Bool, cases_lt, false≢true}
 use Rattle.std.proofs.lemmas.List.{get_or-map, length-map}
 use Rattle.std.proofs.lemmas.List.Elements.{All-get_or}
@@ -9,7 +9,7 @@ use Rattle.waff_plan.specs.Timetable.{AreTimings, timings_of, work_of_messages}
 use Rattle.waff_plan.proofs.TimingLemmas.{length-timings_of}
 use Rattle.waff_line.specs.Laws.{AreAllEnded}
 use Rattle.waff_line.specs.Lined.{LineValue, course_in}
-use Rattle.waff_line.specs.Machine.{Course, IsCourse, IsRunning, Reaches, Runs, State, Steps, Turn, no_turn, opening, turn_of}
+use Rattle.waff_line.specs.Machine.{Course, IsCourse, IsRunning, NobodyMayBegin, Reaches, Runs, State, Steps, Turn, no_turn, opening, turn_of}
 use Rattle.waff_line.specs.Noted.{shown}
 use Rattle.waff_line.specs.Turns.{AreReached, AreRunTurns, course_by}
 use Rattle.waff_line.specs.declared.event.Event.{Event}
@@ -48,12 +48,15 @@ module _ (course : Course) (old new : LineValue) (same : course_in old ≡ cours
 
 -- the step by which a message begins
 pub begun_step : {E : Type 0} (old new : LineValue) (worker m : ℕ) (result : Result (Option ℕ) E)
-    → MatchResult result (λ begun. MatchOption begun (new ≡ old) (λ n. Steps (course_in old) old.state (Begin worker n) new.state)) (λ _. new ≡ old)
-    → result ≡ Ok (Some m) → Steps (course_in old) old.state (Begin worker m) new.state
+    → MatchResult result
+    (λ begun. MatchOption begun ((new ≡ old) × NobodyMayBegin (course_in old) old.state worker) (λ n. Steps (course_in old) old.state (Begin worker n) new.state))
+    (λ _. (new.state ≡ old.state) × (new.over ≡ true)) → result ≡ Ok (Some m) → Steps (course_in old) old.state (Begin worker m) new.state
 begun_step {E} old new worker m result holds is =
     subst
     (λ (r : Result (Option ℕ) E).
-    MatchResult r (λ begun. MatchOption begun (new ≡ old) (λ n. Steps (course_in old) old.state (Begin worker n) new.state)) (λ _. new ≡ old))
+    MatchResult r
+    (λ begun. MatchOption begun ((new ≡ old) × NobodyMayBegin (course_in old) old.state worker) (λ n. Steps (course_in old) old.state (Begin worker n) new.state))
+    (λ _. (new.state ≡ old.state) × (new.over ≡ true)))
     is holds
 
 -- a line of the course before anything has happened

@@ -12,12 +12,12 @@
 //! and when it ends the line has it back, by which then just that was asked which the message asks for. There are no other
 //! hands, so nothing else is asked.
 
-ghost use Rattle.std.specs.Prelude.{◌≡◌, ◌-◌, IfOk, MatchOption, MatchResult, IsSome, None, OnOk, Some, length};
+ghost use Rattle.std.specs.Prelude.{◌≡◌, ◌-◌, true, IfOk, MatchOption, MatchResult, IsSome, None, OnOk, Some, length};
 ghost use Rattle.std.specs.Prelude.{map, option_map, slice_index_or, slice_set};
 ghost use Rattle.waff_model.specs.Numbers.{IsAmongFirst};
 ghost use Rattle.waff_line.specs.Lined.{course_in};
 ghost use Rattle.waff_line.specs.Laws.{AreAllEnded};
-ghost use Rattle.waff_line.specs.Machine.{Course, IsRunning, Steps, opening};
+ghost use Rattle.waff_line.specs.Machine.{Course, IsRunning, NobodyMayBegin, Steps, opening};
 ghost use Rattle.waff_line.specs.Noted.{shown};
 ghost use Rattle.waff_line.specs.Turns.{AreReached, no_course};
 ghost use Rattle.waff_line.specs.declared.event.Event.TheVariants.{Begin, End};
@@ -31,7 +31,7 @@ use crate::store::Store;
 use crate::syncing::Syncs;
 use std::alloc::AllocError;
 use std::marker::{Brand, Model, PhantomData};
-use waff_line::{Ended, Line, Turn, Unready};
+use waff_line::{Ended, Line, Over, Turn};
 use waff_model::Trace;
 
 /// What a run is of.
@@ -228,15 +228,13 @@ impl<'a, C: RunOf, S: Store> Going<'a, C, S> {
         self.line.next()
     }
 
-    pub fn join(&mut self) -> Result<bool, AllocError> {
-        self.line.join()
-    }
-
-    pub fn begin(&mut self, worker: u32) -> Result<Option<Taken<C, S>>, Unready>
+    /// The first message that is ready begins on this worker, where it is free. None does where no message may.
+    pub fn begin(&mut self, worker: u32) -> Result<Option<Taken<C, S>>, Over>
         ensures { MatchResult result
-            (λ begun. MatchOption begun (self.new ≡ self.old)
+            (λ begun. MatchOption begun ((self.new ≡ self.old)
+            × NobodyMayBegin (course_in self.old) self.old.state worker)
             (λ taken. Steps (course_in self.old) self.old.state (Begin worker taken) self.new.state))
-            (λ _. self.new ≡ self.old) }
+            (λ _. (self.new.state ≡ self.old.state) × (self.new.over ≡ true)) }
     {
         match self.line.begin(worker) {
             Ok(Some(message)) => match take_hand(&mut self.hands, message) {
@@ -248,7 +246,7 @@ impl<'a, C: RunOf, S: Store> Going<'a, C, S> {
                 None => unreachable!(),
             },
             Ok(None) => Ok(None),
-            Err(unready) => Err(unready),
+            Err(over) => Err(over),
         }
     }
 

@@ -1,5 +1,9 @@
 //! What is behind the lock of a run.
 
+ghost use Rattle.std.specs.Prelude.{◌⊎◌, IfNone, IsSome};
+ghost use Rattle.waff_line.specs.Lined.{course_in};
+ghost use Rattle.waff_line.specs.Machine.{NobodyMayBegin};
+
 use crate::fault::Stopped;
 use crate::going::{Going, Performed, RunOf, Taken};
 use crate::store::Store;
@@ -66,12 +70,15 @@ impl<'a, C: RunOf, S: Store> Locked<'a, C, S> {
         true
     }
 
-    /// The first message that is ready begins on this worker.
-    pub fn begin(&mut self, worker: u32) -> Option<Taken<C, S>> {
+    /// The first message that is ready begins on this worker, where it is free. Where none does, none may, or the run stops.
+    pub fn begin(&mut self, worker: u32) -> Option<Taken<C, S>>
+        ensures idle { IfNone result (IsSome self.new.stopped
+            ⊎ NobodyMayBegin (course_in self.old.line) self.old.line.state worker) }
+    {
         match self.line.begin(worker) {
             Ok(begun) => begun,
             Err(_) => {
-                self.stop(Stopped::Line);
+                self.stop(Stopped::Memory);
                 None
             }
         }
@@ -88,22 +95,14 @@ impl<'a, C: RunOf, S: Store> Locked<'a, C, S> {
         }
     }
 
-    /// All that are issued by this time join.
+    /// The line is told the time.
     pub fn arrive(&mut self, now: u64) {
         self.line.tell(now);
-        for _ in 0..u64::MAX {
-            match self.line.join() {
-                Ok(true) => {}
-                Ok(false) => return,
-                Err(_) => {
-                    self.stop(Stopped::Memory);
-                    return;
-                }
-            }
-        }
     }
 
-    pub fn stop(&mut self, stopped: Stopped) {
+    pub fn stop(&mut self, stopped: Stopped)
+        ensures { IsSome self.new.stopped }
+    {
         if self.stopped.is_none() {
             self.stopped = Some(stopped);
         }

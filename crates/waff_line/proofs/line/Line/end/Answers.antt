@@ -11,21 +11,3 @@ invariant_of-self c =
     = record { begun = omega (arith, worker, some); runs = sym (ap (λ (t : Turn). t.ended) c.turn-turn.ensures.turn) ∙ c.if-turn.false } in
     stands_ended c.self.inside.queue c.self.inside.notes c.self.invariant c.end.new.self c.end.ensures.case c.end.ensures.timings c.end.ensures.tick c.args.m c.args.now
     running c.end.new.notes c.end.ensures.ended c.end.ensures.queue
-
-pub invariant_of-self-in_err-end : goal.invariant_of-self-in_err-end
-invariant_of-self-in_err-end c =
-    let worker = ap (λ (t : Turn). t.worker) c.turn-turn.ensures.turn in
-    let some = c.if-turn-eq0.false in
-    let running : IsRunning c.self.inside.notes.0 c.args.m
-    = record { begun = omega (arith, worker, some); runs = sym (ap (λ (t : Turn). t.ended) c.turn-turn.ensures.turn) ∙ c.if-turn.false } in
-    stands_ended c.self.inside.queue c.self.inside.notes c.self.invariant c.end.new.self c.end.ensures.case c.end.ensures.timings c.end.ensures.tick c.args.m c.args.now
-    running c.end.new.notes c.end.ensures.ended c.end.ensures.queue
-
-pub invariant_of-self-2 : goal.invariant_of-self-2
-invariant_of-self-2 c =
-    let worker = ap (λ (t : Turn). t.worker) c.turn-turn.ensures.turn in
-    let some = c.if-turn-eq0.false in
-    let running : IsRunning c.self.inside.notes.0 c.args.m
-    = record { begun = omega (arith, worker, some); runs = sym (ap (λ (t : Turn). t.ended) c.turn-turn.ensures.turn) ∙ c.if-turn.false } in
-    stands_ended c.self.inside.queue c.self.inside.notes c.self.invariant c.end.new.self c.end.ensures.case c.end.ensures.timings c.end.ensures.tick c.args.m c.args.now
-    running c.end.new.notes c.end.ensures.ended c.end.ensures.queue

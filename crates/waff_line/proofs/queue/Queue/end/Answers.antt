@@ -30,6 +30,14 @@ let_go-requires-clause-numbers c d waits =
     subst (λ (ts : List Timing). IsAmongFirst (length ts) d) (sym c.as_slice.ensures.value)
     (waiting_number (course_of q n.1).work is.earlier awaiting.ended q.awaits awaiting.awaiting c.args.m d waits)
 
+pub finish-requires : goal.finish-requires
+finish-requires c =
+    let q = c.args.self.now in
+    let n = c.args.notes.now in
+    let are = (c.requires.queue.entered c.if-was_over.false).waiting in
+    let number = running_number q n.1 n.0 c.requires.queue c.end-finish.ensures.staffed c.requires.reached c.args.m c.requires.running in
+    record { number = record { from = number.from; to = omega (arith, number.to, are.waits.count, are.count) } }
+
 pub returns-clause-queue : goal.returns-clause-queue
 returns-clause-queue c =
     let q = c.args.self.now in
@@ -39,4 +47,5 @@ returns-clause-queue c =
     (queue_ended q c.args.notes.now c.requires.queue c.end-finish.ensures.staffed c.requires.reached c.args.m c.args.now c.requires.running c.if-was_over.false
     c.let_go.new.awaits c.let_go.new.due c.in_ok-let_go.ensures.waits
     (subst (λ (p : State × ℕ). Opened q.timings.items p) c.end-finish.ensures.ended
-    (subst (λ (ts : List Timing). Opened ts c.end-finish.new.self) c.as_slice.ensures.value c.in_ok-let_go.ensures.opened)))
+    (subst (λ (ts : List Timing). Opened ts c.end-finish.new.self) c.as_slice.ensures.value c.in_ok-let_go.ensures.opened))
+    c.finish.new.self c.in_ok-finish.ensures.waits c.in_ok-finish.ensures.ready)

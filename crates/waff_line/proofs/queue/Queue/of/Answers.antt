@@ -1,15 +1,19 @@
-use Rattle.std.proofs.Common.{◌≡◌, List, [], length, ap, sym, ◌∙◌, subst, arith}
+use Rattle.std.proofs.Common.{◌≡◌, ℕ, List, [], length, ap, sym, ◌∙◌, subst, arith}
+use Rattle.std.specs.List.{range_with_len}
 use Rattle.waff_plan.specs.Awaiting.{AreAwaiting}
 use Rattle.waff_plan.specs.Obeys.{AwaitsEarlier}
 use Rattle.waff_plan.specs.Timetable.{AreTimings}
 use Rattle.waff_plan.specs.Timing.{work_of}
 use Rattle.waff_plan.specs.declared.timing.Timing.{Timing}
 use Rattle.waff_plan.proofs.TimingLemmas.{length-timings_of}
+use Rattle.waff_line.specs.Entered.{ready_in}
 use Rattle.waff_line.specs.Lined.{AreFirstDue}
 use Rattle.waff_line.specs.Machine.{Course}
 use Rattle.waff_line.specs.Scaled.{scaled}
-use Rattle.waff_line.proofs.Keeping.{lined_opening}
+use Rattle.waff_line.proofs.Entering.{due_opening, placed_opening}
+use Rattle.waff_line.proofs.Keeping.{first_by_issue, first_by_number, lined_opening}
 use Rattle.waff_line.proofs.Opening.{awaiting_opening}
+use Rattle.waff_line.proofs.Readying.{waiting_opening}
 use Rattle.waff_line.proofs.Scaling.{awaiting_scaled, none_scaled}
 use Rattle.waff_line.proofs.queue.Queue.of.Goals as goal
 
@@ -38,6 +42,7 @@ returns-clause-queue c workers =
     let order = c.in_ok-order.order in
     let course : Course
     = record { version = version; tree = case.tree.now; assigned = case.assigned.now; work = scaled c.args.tick (work_of timings); workers = workers } in
+    let first = subst (λ (ts : List Timing). AreFirstDue (scaled c.args.tick (work_of ts)) (length ts) c.in_ok-due.due) c.as_slice-2.ensures.value c.in_ok-due.ensures in
     record {
       many = many;
       timings = are;
@@ -48,5 +53,14 @@ returns-clause-queue c workers =
       lined = λ going.
           lined_opening course order.spans.now order.joining order.messages.items c.in_ok-due.due
           (λ without. none_scaled c.args.tick (work_of timings) (are.alone without)) many c.in_ok-order.ensures.messages c.in_ok-order.ensures.joined
-          (subst (λ (ts : List Timing). AreFirstDue (scaled c.args.tick (work_of ts)) (length ts) c.in_ok-due.due) c.as_slice-2.ensures.value c.in_ok-due.ensures);
+          first;
+      entered = λ going. record {
+        entered = [];
+        issued = due_opening course c.in_ok-due.due first;
+        placed = placed_opening course order.messages.items (λ has. c.in_ok-order.ensures.messages ∙ first_by_issue version (length case.assigned.now) has)
+            (λ none.
+            c.in_ok-order.ensures.messages ∙ first_by_number version (length case.assigned.now) none ∙ ap (λ (n : ℕ). range_with_len 1 n) (sym many));
+        waiting = waiting_opening course order.joining order.messages.items c.in_ok-waiting.waiting.waits (ready_in c.in_ok-waiting.waiting)
+            c.len.result (omega (arith, c.len.ensures, c.in_ok-timings.timings.ok)) c.in_ok-waiting.ensures.waits c.in_ok-waiting.ensures.ready;
+      };
     }
