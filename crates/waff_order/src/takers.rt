@@ -180,13 +180,7 @@ impl Takers {
 
     /// Notes message `m`, which joins, at the locks that it uses, where `root` is the latest message in the root before
     /// it. Where it runs in the root, all others are closed.
-    fn note(
-        &mut self,
-        uses: &[LockUse],
-        m: u32,
-        root: u32,
-        is_root: bool,
-    ) -> Result<(), AllocError>
+    fn note(&mut self, uses: &[LockUse], m: u32, root: u32, is_root: bool) -> Result<(), AllocError>
         requires kept { AreKept self.old.locks.items self.old.chain.items }
         ensures kept { OnOk result ((states : List LockState)
             → AreStates self.old.locks.items self.old.chain.items states
