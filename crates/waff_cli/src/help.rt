@@ -55,10 +55,10 @@ prints. One of them may be -, standard input.
 A trace with clients has the header message,cost,release,client,think,ops. A
 client issues a message at its release, but no sooner than the think time after
 its last one has finished. Its first one, and each of no client (-), is issued
-no sooner than at the think time. What is issued first is served first. With the header
-message,cost,release,client,think,after,ops a message may await earlier ones
-besides: where after is 3 7+20, it is issued when message 3 has finished, and no
-sooner than 20 ticks after 7 has.
+no sooner than at the think time. What is issued first is served first. With the
+header message,cost,release,client,think,after,ops a message may await earlier
+ones besides: where after is 3 7+20, it is issued when message 3 has finished,
+and no sooner than 20 ticks after 7 has.
 
 Without arguments waff reads standard input, a hierarchy, a line ---, and a
 trace, and prints the plan of both.";

@@ -260,7 +260,7 @@ fn steps<'a>(alloc: Global) -> Arg<'a> {
 
 /// Which of the messages that are ready start first.
 fn rule<'a>(alloc: Global) -> Arg<'a> {
-    option(alloc, "rule", "Which ready message starts first (arrival)")
+    option(alloc, "rule", "What starts first")
         .value_name("RULE")
         .value_parser(RULES.as_slice())
         .default_value("arrival")
