@@ -11,7 +11,7 @@ from calling import TOOL, check
 # So many lines has each.
 LINES = 100000
 # A log of which little is kept has so many requests, and of two such logs the peaks of memory may differ by so many KiB.
-KEPT, MORE = 20, 6 << 10
+KEPT, MORE = 20, 3 << 10
 
 
 def long_logs() -> Iterator[tuple[list[str], list[str]]]:
@@ -59,17 +59,55 @@ def idle_log(path: pathlib.Path, idle: int) -> None:
                 file.write(f'{moment} pwrite64(3</srv/a>, "abc"..., 8192, {n % 64 * 4096}) = 8192 <0.000034>\n')
 
 
+def ordering_lines(idle: int) -> Iterator[str]:
+    """The lines of a log of few requests, each behind so many of calls that order threads, without their times. As long as it lasts a parent waits
+    for a child, a thread for being woken, another one for bytes of a pipe, and two for what never comes."""
+    waits = [
+        ("1", "wait4(-1, ", "[{WIFEXITED(s) && WEXITSTATUS(s) == 0}], 0, NULL) = 7"), ("2", "futex(0x7f0000000000, FUTEX_WAIT_PRIVATE, 0, NULL", ") = 0"),
+        ("3", "read(4<pipe:[9]>, ", '"", 4096) = 0'), ("4", "poll([{fd=3, events=POLLIN}], 1, -1", ""), ("5", "fsync(5</srv/b>", ""),
+    ]
+    calls = [
+        ("futex(0x7f0000001000, FUTEX_WAIT_PRIVATE, 2, NULL", ") = 0"), ('write(8<pipe:[1]>, "x"', ", 1) = 1"), ("read(9<pipe:[1]>, ", '"x", 1) = 1'),
+        ("fcntl(3</srv/a>, F_SETLKW, {l_type=F_WRLCK, l_whence=SEEK_SET, l_start=0, l_len=0}", ") = 0"),
+        ("fcntl(3</srv/a>, F_SETLK, {l_type=F_UNLCK, l_whence=SEEK_SET, l_start=0, l_len=0}", ") = 0"),
+    ]
+    for who, head, _ in waits:
+        yield f"{who} {head} <unfinished ...>"
+    # Two threads: what the one begins ends behind the beginning of what the other one asks for.
+    for n in range(KEPT * (idle // 4 + 1)):
+        head, tail = calls[n % len(calls)]
+        if n % (idle // 4 + 1) == 0:
+            head, tail = f'pwrite64(3</srv/a>, "abc"..., 8192, {n % 64 * 4096}', ") = 8192"
+        one, other = ("7", "8") if n // 10 % 2 else ("8", "7")
+        yield f"{one} {head} <unfinished ...>"
+        yield f"{other} futex(0x7f0000001000, FUTEX_WAKE_PRIVATE, 1 <unfinished ...>"
+        yield f"{one} <... {head.partition('(')[0]} resumed>{tail} <0.000100>"
+        yield f"{other} <... futex resumed>) = 1 <0.000100>"
+    for who, head, tail in waits:
+        if tail:
+            yield f"{who} <... {head.partition('(')[0]} resumed>{tail} <9.000000>"
+
+
+def ordering_log(path: pathlib.Path, idle: int) -> None:
+    with open(path, "w") as file:
+        for n, line in enumerate(ordering_lines(idle)):
+            who, _, text = line.partition(" ")
+            file.write(f"{who} {1000 + n // 20000}.{n % 20000 * 50:06} {text}\n")
+
+
 def lean(scratch: pathlib.Path) -> None:
-    """What is not kept of a log takes no memory: one that is a hundred times as long, with as many requests, has the same peak."""
-    for order in ("all", "none"):
+    """What is not kept of a log takes no memory: one that is many times as long, with as many requests, has the same peak. Nor do calls that order
+    threads, also not those that last as long as the log."""
+    for log, order, sizes in ((idle_log, "all", (50, 5000)), (idle_log, "none", (50, 5000)), (ordering_log, "all", (1000, 5000))):
         peaks = []
-        for idle in (50, 5000):
-            idle_log(scratch / "idle.strace", idle)
+        for idle in sizes:
+            log(scratch / "idle.strace", idle)
             with open(scratch / "idle.csv", "w") as out:
                 words: list[str | pathlib.Path] = [TOOL, "strace", scratch / "idle.strace", "--order", order, "--tree", scratch / "idle.toml"]
                 process = subprocess.Popen(words, stdin=subprocess.DEVNULL, stdout=out, stderr=subprocess.DEVNULL)
                 _, status, used = os.wait4(process.pid, 0)
                 process.returncode = os.waitstatus_to_exitcode(status)
-            check(f"--order {order}, {idle} idle calls to one: kept", process.returncode == 0 and len((scratch / "idle.csv").read_text().splitlines()) > KEPT)
+            kept = len((scratch / "idle.csv").read_text().splitlines())
+            check(f"{log.__name__}, --order {order}, {idle} lines to a request: kept", process.returncode == 0 and kept > KEPT)
             peaks.append(used.ru_maxrss)
-        check(f"--order {order}: memory of a long log", peaks[1] < peaks[0] + MORE, peaks)
+        check(f"{log.__name__}, --order {order}: memory of a long log", peaks[1] < peaks[0] + MORE, peaks)

@@ -8,7 +8,7 @@ from collections.abc import Callable, Iterator, Sequence
 
 import orders
 from calling import GOOD, HERE, PLAIN, WITH_LISTS, called, check, run, same, text, waff
-from wafftrace import limits, lists
+from wafftrace import limits, lists, strace_ahead
 from wafftrace.order_frontier import Entry, Frontiers
 
 # The fields of messages; and whose each is, and when it is issued.
@@ -76,6 +76,24 @@ def ordered(scratch: pathlib.Path) -> None:
                 same(f"order, log {number}: {words}", again, found)
             kept_by_words(scratch, number, rows[1:], wanted)
             planned(scratch, number, rows[1:], wanted)
+
+
+def far(scratch: pathlib.Path) -> None:
+    """A trace does not depend on how many lines stand between the beginning of a call and its return, where a call that lasts for long is walked before
+    it has returned: with each call taken for such a one, logs have the traces that they have else."""
+    cases = [(log, ["--cwd", "/v"]) for log in sorted((HERE / "order").glob("*.strace"))]
+    for number in range(WORLDS):
+        log = scratch / f"world-{number}"
+        log.write_text(orders.log(number, has_threads=number % 3 == 0))
+        cases.append((log, ["--cwd", "/v", "--clients", ("thread", "process")[number % 2]]))
+    usual = strace_ahead.FAR
+    for log, words in cases:
+        wanted = called("strace", log, *words)
+        for lines in (0, 5):
+            strace_ahead.FAR = lines
+            found = called("strace", log, *words)
+            strace_ahead.FAR = usual
+            check(f"order {log.stem}: calls of more than {lines} lines", found == wanted, found[0] + found[1])
 
 
 def as_recorded(log: str) -> Issued:

@@ -1,18 +1,20 @@
 """Order between clients: what in a log of strace makes one thread wait for another, as lists of requests that each request waits for.
 
-While the log is read, each call that orders threads or makes requests is noted. When it is read, they are walked in the order of the log."""
+While the log is read, each call that orders threads or makes requests is walked, in the order of the log, as soon as what it asks for is known."""
 
 import collections
 import dataclasses
 import heapq
+from array import array
 from collections.abc import Callable, Iterable, Iterator, Sequence
 from dataclasses import dataclass, field
 
 from . import limits
 from .logs import Data, Refusal, Request, counted, shown
 from .order_frontier import Edge, Frontiers
-from .order_steps import NO_REQUESTS, Birth, Steps, Whose
+from .order_steps import NO_REQUESTS, Birth, Step, Whose, asked_of
 from .order_walk import KINDS, Named, Tally, Walk
+from .order_window import Window
 from .prices import keeping_thinks
 from .processes import Who
 
@@ -31,16 +33,18 @@ def kinds_of(word: str) -> frozenset[str]:
 
 
 class Record:
-    """The calls of a log that order threads, as they are read."""
+    """The calls of a log that order threads or make requests, as they are read."""
 
-    def __init__(self, kinds: frozenset[str]) -> None:
-        self.kinds = kinds
-        self.steps = Steps()
-        self.births: list[Birth] = []
+    def __init__(self, kinds: frozenset[str], fifos: Iterable[str], births: Iterable[int]) -> None:
+        """`fifos` are the paths of named pipes, as far as they are known before, `births` the places of calls that make threads."""
         self.named: dict[int, list[Named]] = {}
         self.whose: dict[str, Whose] = {}
-        # The paths of named pipes.
+        # The paths of named pipes that were shown.
         self.fifos: set[str] = set()
+        self.walk = Walk(kinds, self.named, set(fifos))
+        self.window = Window(self.walk, births)
+        # Where the call of each request began.
+        self.begun = array("q")
 
     def of(self, who: Who, number: str, box: str) -> Whose:
         """Whose a call is. A thread has the number that it was seen with first."""
@@ -51,10 +55,22 @@ class Record:
 
     def line(self, whose: Whose, at: int, time: int, text: str) -> None:
         """A signal, or the end of a thread."""
-        self.steps.add(whose, at, at, time, time, (text[:3], text, "", ""), NO_REQUESTS)
+        self.window.add(Step(whose, asked_of(text[:3], text, "", ""), at, at, time, time, NO_REQUESTS))
+
+    def made(self, requests: Sequence[Request], begun: int) -> range:
+        """A call that began at this place has made requests. Answers their numbers."""
+        first = len(self.begun)
+        self.walk.frontiers.more(requests)
+        self.begun.extend([begun] * len(requests))
+        return range(first, len(self.begun))
 
     def birth(self, child: Who, number: str, box: str, parent: Who, begun: int) -> None:
-        self.births.append(Birth(begun, Whose(child.thread, number, child.process, box), parent.thread))
+        self.window.born(Birth(begun, Whose(child.thread, number, child.process, box), parent.thread))
+
+    def fifo(self, path: str) -> None:
+        """A named pipe was shown."""
+        self.fifos.add(path)
+        self.walk.fifos.add(path)
 
     def makes(self, request: int, *keys: object) -> None:
         """Others find by this name what a request made, or that it is free."""
@@ -64,13 +80,9 @@ class Record:
         self.named.setdefault(request, []).append(("needs", key))
 
     def solved(self, requests: Sequence[Request]) -> "Order":
-        walk = Walk(requests, self.kinds, self.named, self.fifos)
-        walk.go(self.steps, self.births)
-        begun = [0] * len(requests)
-        for place, made in zip(self.steps.begun, self.steps.requests, strict=True):
-            for number in made:
-                begun[number] = place
-        return Order(requests, walk.frontiers, begun, walk.tally, self.steps.is_delayed)
+        self.window.finish()
+        self.walk.frontiers.release(min((it.time for it in requests), default=0))
+        return Order(requests, self.walk.frontiers, self.begun, self.walk.tally)
 
 
 @dataclass(slots=True)
@@ -89,12 +101,11 @@ class Item:
 class Order:
     """What each request of a log waits for."""
 
-    def __init__(self, requests: Sequence[Request], frontiers: Frontiers, begun: list[int], tally: Tally, is_delayed: bool) -> None:
+    def __init__(self, requests: Sequence[Request], frontiers: Frontiers, begun: Sequence[int], tally: Tally) -> None:
         self.requests = requests
         self.frontiers = frontiers
         self.begun = begun
         self.tally = tally
-        self.is_delayed = is_delayed
         # How many are left out of those that wait for a request which began later by the clock.
         self.backwards = 0
         self.number = {id(it): at for at, it in enumerate(requests)}
@@ -178,7 +189,7 @@ def told(order: Order, lists: Lists) -> list[str]:
         lines.append(f"gaps above {limits.THINK} ticks, which were cut to that: {lists.cut} (--tick {keeping_thinks(lists.longest)} keeps them)")
     if order.backwards:
         lines.append(f"{counted(order.backwards, 'edges')} left out, to requests that the clock of the log tells to be later")
-    if tally.has_threads and not order.is_delayed:
+    if tally.has_threads and not tally.is_delayed:
         lines.append("WARNING: threads share memory, and a mutex that is free shows in no log: the order may lack edges (record slow: workloads/README.md)")
     if tally.without_peer:
         lines.append(f"WARNING: {counted(tally.without_peer, 'calls')} on sockets without another end, which order nobody (strace -yy ties both ends)")

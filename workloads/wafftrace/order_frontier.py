@@ -4,12 +4,13 @@ that.
 A thread has a clock, which runs while it does not wait. A gap is the time of clocks from the end of a request to a point, and of two ways from
 the one to the other the longer counts."""
 
+from array import array
 from collections.abc import Sequence
 from dataclasses import dataclass, field
 
 from .logs import Request
 
-# The start of the log, as a client with the request -1: what is not known to come of a request comes so long after it.
+# The beginning of all time, as a client with the request -1: what is not known to come of a request comes so long after it.
 START = ""
 # A request by its number, and the gap behind it.
 Entry = tuple[int, int]
@@ -18,6 +19,9 @@ Edge = tuple[int, int, str]
 # Of each client the entries of which none makes another one needless.
 Entries = dict[str, list[Entry]]
 NO_ENTRIES: list[Entry] = []
+NO_EDGES: list[Edge] = []
+# In place of the request before the first one of a thread.
+NONE = -1
 
 
 @dataclass(slots=True)
@@ -57,25 +61,36 @@ class Thread:
 class Frontiers:
     """What each request waits for, found one after another in the order of their beginnings."""
 
-    def __init__(self, requests: Sequence[Request]) -> None:
-        count = len(requests)
-        self.start = min((it.time for it in requests), default=0)
-        self.took = [it.took or 0 for it in requests]
-        self.whose = [""] * count
+    def __init__(self) -> None:
+        self.took: list[int] = []
+        self.whose: list[str] = []
         # What is found: the think time and the release of each request, and whom it waits for besides the one before of its client.
-        self.thinks = [0] * count
-        self.releases = [0] * count
-        self.after: list[list[Edge]] = [[] for _ in range(count)]
+        self.thinks: list[int] = []
+        self.releases: list[int] = []
+        self.after: list[list[Edge]] = []
         # How many entries there were before those went that others make needless.
         self.raw = 0
-        # When each ends in its client's own time, and the least time at which it is issued if nothing costs anything.
-        self.ends = [0] * count
-        self.least = [0] * count
+        # When each ends in its client's own time.
+        self.ends: list[int] = []
         # Requests of a client without lists share what is known of the first of them, their `base`, with gaps less `since`: the think times up
         # to each.
-        self.base = [0] * count
-        self.since = [0] * count
+        self.base: list[int] = []
+        self.since: list[int] = []
         self.known: dict[int, dict[str, Entry]] = {}
+        # The requests in the order of their issue; the one before of each one's thread; and the time after which each comes of which that is
+        # known, what it waits for aside.
+        self.issued, self.before = array("q"), array("q")
+        self.times: dict[int, int] = {}
+
+    def more(self, requests: Sequence[Request]) -> None:
+        """Takes requests that have the next numbers."""
+        for it in requests:
+            self.took.append(it.took or 0)
+            self.whose.append("")
+            self.after.append(NO_EDGES)
+            for column in (self.thinks, self.ends, self.base, self.since):
+                column.append(0)
+            self.before.append(NONE)
 
     def put(self, every: list[Entry], number: int, gap: int) -> list[Entry]:
         """These entries of a client and another one, without those that others make needless at the times of the log: the same list where
@@ -120,11 +135,13 @@ class Frontiers:
     def issue(self, thread: Thread, numbers: range) -> None:
         """The requests of a call of this thread: the first waits for what the thread comes after, the others for the one before."""
         number = numbers.start
+        self.issued.append(number)
         self.whose[number] = thread.name
         self.first(thread, number)
         for number in numbers[1:] if len(numbers) > 1 else ():
+            self.issued.append(number)
             self.whose[number] = thread.name
-            self.least[number] = self.least[number - 1]
+            self.before[number] = number - 1
             self.note(thread.name, number, (number - 1, 0))
         thread.own = {thread.name: [(number, -thread.clock)]}
         thread.why.clear()
@@ -144,18 +161,29 @@ class Frontiers:
         found = self.reduced(name, own, others) if others else []
         if found:
             self.after[number] = [(it, gap, thread.why[it]) for it, gap in found]
-        least = 0
         if own is not None:
-            self.thinks[number] = own[1]
-            least = self.least[own[0]] + own[1]
-        self.note(name, number, own)
-        for it, gap in found:
-            if self.least[it] + gap > least:
-                least = self.least[it] + gap
+            self.before[number], self.thinks[number] = own
         begun = thread.own.get(START)
-        if begun is not None and clock + begun[0][1] > least:
-            self.releases[number] = least = clock + begun[0][1]
-        self.least[number] = least
+        if begun is not None:
+            self.times[number] = clock + begun[0][1]
+        self.note(name, number, own)
+
+    def release(self, start: int) -> None:
+        """Finds the releases, which count from the time of the first request on: when each comes where that is later than what it waits for lets
+        it come if nothing costs anything."""
+        self.releases = [0] * len(self.took)
+        least = [0] * len(self.took)
+        for number in self.issued:
+            before, soonest = self.before[number], 0
+            if before != NONE:
+                soonest = least[before] + self.thinks[number]
+            for it, gap, _ in self.after[number]:
+                if least[it] + gap > soonest:
+                    soonest = least[it] + gap
+            time = self.times.get(number)
+            if time is not None and time - start > soonest:
+                self.releases[number] = soonest = time - start
+            least[number] = soonest
 
     def way(self, number: int, client: str, before: int) -> int | None:
         """The gaps from a request of a client to this one that are certain; None where this one is not known to come after it."""

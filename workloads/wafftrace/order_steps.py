@@ -1,10 +1,7 @@
-"""The calls of a log that order threads or make requests. A long log has many, so they are kept in columns, and of their words what counts."""
+"""The calls of a log that order threads or make requests, and of their words what counts."""
 
 import functools
-import heapq
 import re
-from array import array
-from collections.abc import Iterator, Sequence
 from typing import NamedTuple
 
 READS = frozenset(("read", "readv", "recvfrom", "recvmsg", "recv"))
@@ -52,7 +49,9 @@ class Asked(NamedTuple):
     amount: int
 
 
+@functools.lru_cache(maxsize=1 << 12)
 def asked_of(name: str, args: str, result: str, tail: str) -> Asked:
+    """The same calls come often."""
     amount = int(result) if result.isdecimal() and len(result) < 20 else 0
     return Asked(name, args, result, tail, result == "?" or result.startswith("-"), amount)
 
@@ -80,10 +79,8 @@ class Birth(NamedTuple):
 NO_REQUESTS = range(0)
 # What stands behind a call that strace was told to delay.
 DELAYED = "(DELAYED)"
-# Behind all places of a log.
-LAST = 1 << 62, 0, 0
-# What Steps.in_order tells of: a birth, or of a step the beginning, the end, or both at once.
-BIRTH, BEGIN, END, BOTH = range(4)
+# What a line tells of a step: its beginning, its end, or both at once.
+BEGIN, END, BOTH = range(3)
 
 
 @functools.lru_cache(maxsize=1 << 14)
@@ -102,63 +99,3 @@ def what_counts(name: str, args: str) -> str:
         return ""
     descriptor, path = found.group(0, 2)
     return args if path and (SIGNALS in path or NUMBERS in path) else descriptor
-
-
-class Steps:
-    """Steps in the order of their ends."""
-
-    def __init__(self) -> None:
-        # The places and times of their beginnings and ends. No time is above 2^64 ns.
-        self.begun, self.ended = array("q"), array("q")
-        self.time, self.end = array("Q"), array("Q")
-        self.whose: list[Whose] = []
-        self.asked: list[Asked] = []
-        self.requests: list[range] = []
-        # The same calls come often.
-        self.alike: dict[tuple[str, str, str, str], Asked] = {}
-        self.is_delayed = False
-
-    def add(self, whose: Whose, begun: int, ended: int, time: int, end: int, words: tuple[str, str, str, str], requests: range) -> None:
-        """Adds a call that has returned: the places and times of its beginning and its end, its name, what counts of its arguments, its result
-        and what stands behind that, and the requests that it made."""
-        asked = self.alike.get(words)
-        if asked is None:
-            asked = self.alike[words] = asked_of(*words)
-            self.is_delayed = self.is_delayed or DELAYED in asked.tail
-        self.whose.append(whose)
-        self.asked.append(asked)
-        self.requests.append(requests)
-        self.begun.append(begun)
-        self.ended.append(ended)
-        self.time.append(time)
-        self.end.append(end)
-
-    def __len__(self) -> int:
-        return len(self.whose)
-
-    def step(self, at: int) -> Step:
-        return Step(self.whose[at], self.asked[at], self.begun[at], self.ended[at], self.time[at], self.end[at], self.requests[at])
-
-    def in_order(self, births: Sequence[Birth]) -> Iterator[tuple[int, Step | Birth]]:
-        """Beginnings, births, and ends, in the order of the places of their lines; of one line in this order, and both at once where
-        nothing is between them."""
-        # Those that other lines stand in, and births, in the order in which they began.
-        begun, ended = self.begun, self.ended
-        open_ones = array("q", sorted((at for at in range(len(self)) if begun[at] < ended[at]), key=begun.__getitem__))
-        long_ones: Iterator[tuple[int, int, int]] = ((begun[at], 0, at) for at in open_ones)
-        others = iter(heapq.merge(long_ones, sorted((birth.begun, 1, at) for at, birth in enumerate(births))))
-        place, kind, number = next(others, LAST)
-        for step in map(Step, self.whose, self.asked, begun, ended, self.time, self.end, self.requests):
-            if step.begun == step.ended < place:
-                yield BOTH, step
-                continue
-            for limit, what in ((step.begun, BEGIN), (step.ended + 1, END)):
-                if what == BEGIN and step.begun < step.ended:
-                    continue
-                while place < limit:
-                    yield BIRTH if kind else BEGIN, births[number] if kind else self.step(number)
-                    place, kind, number = next(others, LAST)
-                yield what, step
-        while place < LAST[0]:
-            yield BIRTH if kind else BEGIN, births[number] if kind else self.step(number)
-            place, kind, number = next(others, LAST)

@@ -9,10 +9,9 @@ from collections.abc import Callable, Sequence
 from dataclasses import dataclass, field
 from typing import NamedTuple
 
-from .logs import Request
 from .order_frontier import START, Frontiers, Point, Thread
 from .order_locks import BEHIND, Holder, Key, Locks, Range
-from .order_steps import BEGIN, END, EXITS, FORKS, KILLS, POLLS, READS, SLEEPS, WAITS, WRITES, Birth, Step, Steps, Whose, descriptor_of
+from .order_steps import BEGIN, DELAYED, END, EXITS, FORKS, KILLS, POLLS, READS, SLEEPS, WAITS, WRITES, Birth, Step, Whose, descriptor_of
 from .order_streams import ALONE, Channel, Streams, channel_of
 
 # Why one waits for another, by the words of `--order`.
@@ -50,29 +49,72 @@ Named = tuple[str, object]
 
 @dataclass(slots=True)
 class Wake:
-    """A call that woke threads: its place, how many more it may have woken, and where it was made."""
+    """A call that woke threads: which of its address it is, its place, how many more it may have woken, and where it was made."""
 
+    number: int
     begun: int
     left: int
     point: Point
 
 
 @dataclass(slots=True)
+class Wakes:
+    """The calls that woke threads at an address: how many there were, and of the last ones those that may have woken more, the very last, and the
+    last of another thread than that one's."""
+
+    count: int = 0
+    left: list[Wake] = field(default_factory=list)
+    last: Wake | None = None
+    other: Wake | None = None
+
+    def add(self, begun: int, amount: int, point: Point) -> None:
+        wake = Wake(self.count, begun, amount, point)
+        self.count += 1
+        if self.last is not None and self.last.point.who != point.who:
+            self.other = self.last
+        self.last = wake
+        if amount:
+            self.left.append(wake)
+        if self.left and self.left[0].number < self.count - MOST_WAKES:
+            del self.left[0]
+
+    def before(self, who: str) -> Point | None:
+        """Where the last one was made that is of another thread."""
+        for it in (self.last, self.other):
+            if it is not None and it.point.who != who:
+                return it.point if it.number >= self.count - MOST_WAKES else None
+        return None
+
+    def take(self, begun: int) -> Point | None:
+        """Where the first one was made that may have woken more, of those from this place on."""
+        at = bisect_right(self.left, begun, key=lambda it: it.begun)
+        if at == len(self.left):
+            return None
+        wake = self.left[at]
+        wake.left -= 1
+        if not wake.left:
+            del self.left[at]
+        return wake.point
+
+
+@dataclass(slots=True)
 class Tally:
-    """What is told of the order: nanoseconds of waits whose cause the log has, by kind, and of others, by call, and what could not be
-    followed."""
+    """What is told of the order: nanoseconds of waits whose cause the log has, by kind, and of others, by call, what could not be followed, and
+    whether strace was told to delay calls."""
 
     explained: collections.Counter[str] = field(default_factory=collections.Counter)
     unexplained: collections.Counter[str] = field(default_factory=collections.Counter)
     without_peer: int = 0
     has_threads: bool = False
+    is_delayed: bool = False
 
 
 class Walk:
-    """Goes through the steps of a log. `kinds` are the reasons that count, `named` what requests make and need, `fifos` paths of pipes."""
+    """Goes through the steps of a log. `kinds` are the reasons that count, `named` what requests make and need, up to their ends, `fifos` paths of
+    pipes."""
 
-    def __init__(self, requests: Sequence[Request], kinds: frozenset[str], named: dict[int, list[Named]], fifos: set[str]) -> None:
-        self.frontiers = Frontiers(requests)
+    def __init__(self, kinds: frozenset[str], named: dict[int, list[Named]], fifos: set[str]) -> None:
+        self.frontiers = Frontiers()
         self.kinds = kinds
         self.named = named
         self.fifos = fifos
@@ -87,7 +129,7 @@ class Walk:
         self.locks = Locks(self.frontiers)
         self.streams = Streams(self.frontiers)
         self.mutexes: dict[tuple[str, str], Point] = {}
-        self.wakes: dict[tuple[str, str], list[Wake]] = collections.defaultdict(list)
+        self.wakes: dict[tuple[str, str], Wakes] = collections.defaultdict(Wakes)
         # By address, who waits there as at a barrier, and since where; and each eventfd by the process that made it and its descriptor.
         self.arrived: dict[tuple[str, str], dict[str, Point]] = collections.defaultdict(dict)
         self.events: dict[tuple[str, int], str] = {}
@@ -96,18 +138,13 @@ class Walk:
         self.kills: dict[str, list[tuple[str, Point]]] = collections.defaultdict(list)
         self.makers: dict[object, tuple[int, str]] = {}
 
-    def go(self, steps: Steps, births: Sequence[Birth]) -> None:
-        """Takes beginnings, births and ends in the order of the places of their lines."""
-        threads = self.threads
-        for what, it in steps.in_order(births):
-            if isinstance(it, Birth):
-                self.born(it)
-                continue
-            thread = threads.get(it.whose.thread) or self.newcomer(it)
-            if what != END:
-                self.begin(thread, it)
-            if what != BEGIN:
-                self.end(thread, it)
+    def take(self, what: int, step: Step) -> None:
+        """Takes the beginning of the next step, the end of one, or both, in the order of the places of their lines."""
+        thread = self.threads.get(step.whose.thread) or self.newcomer(step)
+        if what != END:
+            self.begin(thread, step)
+        if what != BEGIN:
+            self.end(thread, step)
 
     # Threads
 
@@ -115,7 +152,7 @@ class Walk:
         """A thread that the log does not tell to be made."""
         whose = step.whose
         found = self.threads[whose.thread] = Thread(whose.thread, whose.process, whose.box, step.time)
-        found.own[START] = [(-1, step.time - self.frontiers.start)]
+        found.own[START] = [(-1, step.time)]
         self.note(found, whose.number)
         return found
 
@@ -136,7 +173,7 @@ class Walk:
             # What the parent had waited for keeps its kind.
             found.why.update(parent.why)
         else:
-            found.own[START] = [(-1, parent.last - self.frontiers.start)]
+            found.own[START] = [(-1, parent.last)]
 
     def called(self, box: str, number: str) -> str:
         """The latest thread of this number in a box."""
@@ -266,9 +303,7 @@ class Walk:
                     self.join(thread, it, 0, "futex")
                 point = thread.point = thread.here()
             self.mutexes[key] = self.frontiers.both(self.mutexes.get(key), point)
-            wakes = self.wakes[key]
-            wakes.append(Wake(step.begun, step.asked.amount, point))
-            del wakes[:-MOST_WAKES]
+            self.wakes[key].add(step.begun, step.asked.amount, point)
 
     def write(self, thread: Thread, step: Step, point: Point) -> None:
         self.written(step, descriptor_of(step.asked.args)[1], point)
@@ -323,6 +358,8 @@ class Walk:
         if name == "---":
             self.signalled(thread, step)
             return
+        if asked.tail and DELAYED in asked.tail:
+            self.tally.is_delayed = True
         # The time of a request is no thinking.
         if step.requests:
             if self.named:
@@ -337,7 +374,7 @@ class Walk:
 
     def note_makers(self, thread: Thread, step: Step) -> None:
         for number in step.requests:
-            for what, key in self.named.get(number, ()):
+            for what, key in self.named.pop(number, ()):
                 if what == "makes":
                     self.makers[key] = number, thread.name
 
@@ -411,19 +448,10 @@ class Walk:
         self.arrived[key].pop(thread.name, None)
         if found.value == CONTENDED and not found.is_bitset:
             return key in self.mutexes and self.wait_for(thread, step, [self.mutexes[key]], "futex")
-        woken = self.woken(thread, step, key)
-        return woken is not None and self.wait_for(thread, step, [woken], "futex")
-
-    def woken(self, thread: Thread, step: Step, key: tuple[str, str]) -> Point | None:
-        """Where the call was made that woke this one: the first with a waiter left, or where the value had changed before the last one."""
+        # Where the call was made that woke this one: the first that may have, or where the value had changed before the last one.
         wakes = self.wakes[key]
-        if step.asked.has_failed:
-            return next((it.point for it in reversed(wakes) if it.begun < step.ended and it.point.who != thread.name), None)
-        for at in range(bisect_right(wakes, step.begun, key=lambda it: it.begun), len(wakes)):
-            if wakes[at].left > 0:
-                wakes[at].left -= 1
-                return wakes[at].point
-        return None
+        woken = wakes.before(thread.name) if step.asked.has_failed else wakes.take(step.begun)
+        return woken is not None and self.wait_for(thread, step, [woken], "futex")
 
     def receive(self, thread: Thread, step: Step) -> bool:
         if step.asked.has_failed or step.asked.name == "sendfile":

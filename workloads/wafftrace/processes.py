@@ -249,6 +249,10 @@ class Births:
         if tail and tail[1].isdecimal() and int(tail[1]):
             self.found[event.source.box + str(int(tail[1]))].append(Birth(pid, args, first, at))
 
+    def places(self) -> Iterator[int]:
+        """Where the calls began."""
+        return (birth.begun for every in self.found.values() for birth in every)
+
 
 def parted(args: str) -> tuple[str, re.Match[str] | None]:
     """The arguments of a call, and what stands behind them, as TAIL finds it."""

@@ -12,6 +12,7 @@ from .long_text import LongTexts
 from .model import Found
 from .order import USUAL, Record, kinds_of
 from .processes import Births, Event, Merged, Source
+from .strace_ahead import Ahead
 from .strace_calls import FLAGS_WANTED, Calls
 from .strace_names import Names
 from .strace_requests import Requests
@@ -91,6 +92,19 @@ class Part:
         return kept
 
 
+def beforehand(lines: Merged, part: Part, is_ordered: bool) -> tuple[Births, Ahead]:
+    """The first reading of a log: which call made which process, and where there is an order between clients what that has to know before."""
+    births, ahead, count = Births(), Ahead(), 0
+    for count, event in enumerate(lines.beforehand()):
+        births.take(count, event)
+        if part.words:
+            part.take(event)
+        if is_ordered:
+            ahead.take(count, event)
+    ahead.finish(count)
+    return births, ahead
+
+
 def read(asked: Namespace) -> Found:
     """What the logs tell. Their lines are read twice and not kept: what comes later tells who made which process."""
     if not asked.logs:
@@ -101,15 +115,15 @@ def read(asked: Namespace) -> Found:
     sources = [Source(Lines(name, 0, wanted), boxes[name], texts.of(name)) for name in asked.logs]
     logs = [it.log for it in sources]
     whole = logs[0] if len(logs) == 1 else Lines(f"{len(logs)} logs", 0)
-    lines, births, part = Merged(sources), Births(), Part(asked.begin, asked.end)
-    for at, event in enumerate(lines.beforehand()):
-        births.take(at, event)
-        part.take(event)
+    lines, part = Merged(sources), Part(asked.begin, asked.end)
+    births, ahead = beforehand(lines, part, bool(kinds))
     directory = folder_of(asked)
     under = posixpath.normpath(posixpath.join(directory, asked.under)) if asked.under else None
-    order = Record(kinds) if kinds else None
+    order = Record(kinds, ahead.fifos, births.places()) if kinds else None
+    # Without latencies only an order that is asked for is kept.
+    is_walked = ahead.has_latencies or not asked.is_usual_order
     requests = Requests(whole, Names(whole, under, directory, asked.cwd is not None), asked.clients, order)
-    calls = Calls(whole, directory, births.found, lines.with_number_later, requests, order)
+    calls = Calls(whole, directory, births.found, lines.with_number_later, requests, order if is_walked else None, ahead)
     calls.read(lines.events())
     whole.count = sum(it.count for it in logs)
     if asked.clients == "family":

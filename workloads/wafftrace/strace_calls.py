@@ -1,23 +1,20 @@
 """The calls of a log of strace: whose each is, which process made which, and what a call asked and answered when it returns."""
 
 import collections
-import re
 from collections.abc import Iterable
 
 from .logs import Lines, Refusal
 from .order import Record
 from .order_steps import CALLS as ORDERED
-from .order_steps import NO_REQUESTS, what_counts
+from .order_steps import NO_REQUESTS, Step, asked_of, what_counts
 from .processes import FORKED, FORKS, RESUMED, UNFINISHED, Birth, Children, Event, Process, Who, nanoseconds, parted
+from .strace_ahead import FIFO, NODES, NOWHERE, Ahead
 from .strace_names import DESCRIPTOR, SAY_FOLDER, Call, absolute
 from .strace_requests import CALLS, Requests
 
 FLAGS_WANTED = "strace -f -ttt -T -o LOG"
-# Calls that show what a file is, and how they show a named pipe.
-NODES = frozenset(("mknod", "mknodat", "stat", "lstat", "fstat", "fstat64", "newfstatat", "statx"))
 # How a call ends in which strace leaves a process.
 DETACHED = "<detached ...>"
-FIFO = re.compile(r'(?:_mode=|", )S_IFIFO')
 
 
 class Calls:
@@ -25,16 +22,18 @@ class Calls:
 
     def __init__(
         self, log: Lines, directory: str, births: dict[str, collections.deque[Birth]], with_number_later: set[str], requests: Requests,
-        order: Record | None,
+        order: Record | None, ahead: Ahead,
     ) -> None:
         """`directory` is where the first process was started, `births` are the calls that made processes, `with_number_later` the boxes of
-        which the process without a number has one later."""
+        which the process without a number has one later. Where the calls that order threads are walked, `order` does so, and `ahead` is what the
+        first reading noted for that."""
         self.log = log
         self.directory = directory
         self.births = births
         self.with_number_later = with_number_later
         self.requests = requests
         self.order = order
+        self.ahead = ahead
         self.children = Children()
         self.processes: dict[str, Process] = {}
         self.attached: set[str] = set()
@@ -46,6 +45,9 @@ class Calls:
 
     def read(self, events: Iterable[Event]) -> None:
         is_first = True
+        if self.order is not None and self.ahead.unknown != NOWHERE:
+            # Calls before it may be on a named pipe that only this line shows.
+            self.order.window.hold(NOWHERE, False)
         for at, event in enumerate(events):
             if event.pid is None:
                 self.attached.add(event.rest)
@@ -63,15 +65,23 @@ class Calls:
 
     def event(self, at: int, pid: str, event: Event) -> bool:
         """Takes what a line tells of a process. False where it is not understood."""
-        time, rest = event.time, event.rest
         process = self.processes.get(pid)
         is_new = process is None
         if process is None:
             process = self.processes[pid] = self.newcomer(pid, event.source.box, at)
+        if event.rest[:1] in "<+-" or UNFINISHED in event.rest:
+            return self.part(at, process, is_new, pid, event)
+        return self.call(at, process, event.time, event.rest, pid, at)
+
+    def part(self, at: int, process: Process, is_new: bool, pid: str, event: Event) -> bool:
+        """Takes a line that seems to be no whole call: a beginning or a return, a signal, or the end of a process."""
+        time, rest = event.time, event.rest
         if rest.endswith(UNFINISHED):
             if process.pending is not None:
-                self.log.without["calls that did not return"] += 1
+                self.lost(process)
             process.pending, process.begun = (time, rest[: -len(UNFINISHED)]), at
+            if self.order is not None:
+                self.begun(self.order, at, process, pid, process.pending)
             self.log.without["beginnings of calls (<unfinished ...>: each call counts where it resumes)"] += 1
             return "(" in rest
         if rest.startswith("<... "):
@@ -82,18 +92,18 @@ class Calls:
             process.pending = None
             rest = begun + rest[rest.find(RESUMED) + len(RESUMED) :]
             return self.call(at, process, time, rest, pid, process.begun)
-        elif rest.startswith(("+++ ", "--- ")):
-            self.log.without["signals and ends of processes"] += 1
-            if self.order is not None:
-                self.order.line(self.order.of(process.who, pid, process.box), at, time, rest)
-            if rest.startswith("+++ "):
-                self.children.ended(process.who)
-                if process.pending is not None:
-                    self.log.without["calls that did not return"] += 1
-                del self.processes[pid]
-                self.ended[pid] += 1
-            return True
-        return self.call(at, process, time, rest, pid, at)
+        if not rest.startswith(("+++ ", "--- ")):
+            return self.call(at, process, time, rest, pid, at)
+        self.log.without["signals and ends of processes"] += 1
+        if self.order is not None:
+            self.order.line(self.order.of(process.who, pid, process.box), at, time, rest)
+        if rest.startswith("+++ "):
+            self.children.ended(process.who)
+            if process.pending is not None:
+                self.lost(process)
+            del self.processes[pid]
+            self.ended[pid] += 1
+        return True
 
     def newcomer(self, pid: str, box: str, at: int) -> Process:
         """A process that was not seen: the child of a call that has begun and returns later in the log; the first one, which a
@@ -129,38 +139,65 @@ class Calls:
         """What a process is called: its number, or how one without a number is, and which of this number it is if that came again."""
         return pid + alone + (f".{self.ended[pid] + 1}" if self.ended[pid] else "")
 
+    def begun(self, order: Record, at: int, process: Process, pid: str, pending: tuple[int, str]) -> None:
+        """A call has begun that does not return on this line. Where it makes no request, and its return is far, its beginning is walked now."""
+        time, text = pending
+        name, bracket, args = text.partition("(")
+        if at in self.ahead.calls and name not in FORKS:
+            asked = self.ahead.calls.pop(at)
+            if asked is None:
+                return
+            if not self.requests.may_ask(process, name, args):
+                order.window.begin(order.of(process.who, pid, process.box), at, time, asked)
+                return
+        if not bracket or name in ORDERED or name in CALLS:
+            order.window.hold(at, name in FORKS)
+
+    def lost(self, process: Process) -> None:
+        """A call does not return."""
+        self.log.without["calls that did not return"] += 1
+        if self.order is not None:
+            self.order.window.drop(process.begun)
+
     def call(self, at: int, process: Process, time: int, rest: str, pid: str, begun: int) -> bool:
         """Takes a call that has returned, and began at this place."""
         name, bracket, args = rest.partition("(")
         args, tail = parted(args) if bracket else ("", None)
+        order, made = self.order, self.requests.requests
         if tail is None:
+            if order is not None:
+                order.window.drop(begun)
             is_left = rest.endswith(DETACHED)
             self.log.without["calls that did not return"] += is_left
             return is_left
         result, path, behind, seconds, digits = tail.groups()
         took = nanoseconds(seconds, digits) if digits else None
-        if self.order is None:
+        if self.requests.order is not None and name in NODES and result == "0" and FIFO.search(args):
+            self.note_fifo(self.requests.order, at, process, args)
+        if order is None:
             return self.returned(at, process, name, args, (result, path), (time, took))
-        order, made = self.order, self.requests.requests
-        if name in NODES and result == "0" and FIFO.search(args):
-            self.note_fifo(order, process, args)
         before = len(made)
         is_understood = self.returned(at, process, name, args, (result, path), (time, took))
         after = len(made)
         if after > before or name in ORDERED:
             whose = order.whose.get(process.who.thread) or order.of(process.who, pid, process.box)
-            requests = range(before, after) if after > before else NO_REQUESTS
-            order.steps.add(whose, begun, at, time, time + (took or 0), (name, what_counts(name, args), result, behind), requests)
+            requests = order.made(made[before:after], begun) if after > before else NO_REQUESTS
+            asked = asked_of(name, what_counts(name, args), result, behind)
+            order.window.add(Step(whose, asked, begun, at, time, time + (took or 0), requests))
+        elif begun < at:
+            order.window.drop(begun)
         return is_understood
 
-    def note_fifo(self, order: Record, process: Process, args: str) -> None:
+    def note_fifo(self, order: Record, at: int, process: Process, args: str) -> None:
         """A call shows a named pipe, by its path or by a descriptor."""
         path = self.requests.names.path(Call(process, args, 0, None, 0, None))
         if path is None:
             shown = DESCRIPTOR.match(args)
             path = absolute(shown[2]) if shown else None
         if path is not None:
-            order.fifos.add(path)
+            order.fifo(path)
+        if at == self.ahead.unknown:
+            order.window.drop(NOWHERE)
 
     def returned(
         self, at: int, process: Process, name: str, args: str, answer: tuple[str, str | None], times: tuple[int, int | None]
@@ -186,4 +223,8 @@ class Calls:
         births = self.births.get(child)
         if births and births[0].returned == at:
             birth = births.popleft()
+            old = self.processes.get(child)
+            if old is not None and old.pending is not None and self.order is not None:
+                # The log does not tell that it has ended.
+                self.order.window.drop(old.begun)
             self.processes[child] = self.born(process, process.child(self.name(child), args), child, birth.begun)

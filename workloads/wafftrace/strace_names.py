@@ -43,6 +43,12 @@ def absolute(path: str | None) -> str | None:
     return found.removesuffix(" (deleted)") if found.startswith("/") else None
 
 
+def joined(base: str | None, name: str) -> str:
+    """The path of a name in a folder, where that is known."""
+    path = posixpath.normpath(f"{base}/{name}" if base and not name.startswith("/") else name)
+    return path[1:] if path.startswith("//") else path
+
+
 # What stands for each file that is not of the volume.
 ELSEWHERE = File("", 0)
 
@@ -103,9 +109,7 @@ class Names:
         base = self.base(call.process, start, shown)
         if text == "" and start not in (None, "AT_FDCWD"):
             return base
-        text = unescaped(text)
-        path = posixpath.normpath(f"{base}/{text}" if base and not text.startswith("/") else text)
-        return path[1:] if path.startswith("//") else path
+        return joined(base, unescaped(text))
 
     def file(self, path: str) -> File:
         file = self.paths.get(path)

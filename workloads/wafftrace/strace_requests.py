@@ -8,9 +8,11 @@ from functools import partial
 from .logs import Blocks, Data, File, Lines, Meta, Request, is_number
 from .model import VOLUME
 from .order import Record
-from .processes import Open, Who
-from .strace_names import DESCRIPTOR, ELSEWHERE, PATH, Call, Names
+from .processes import Open, Process, Who
+from .strace_names import DESCRIPTOR, ELSEWHERE, PATH, Call, Names, absolute
 
+# Calls that order threads, and make requests where their descriptor is one of a file.
+MOVES = frozenset(("read", "readv", "write", "writev"))
 SIZE = re.compile(r"st_size=(\d{1,18})", re.ASCII)
 
 
@@ -53,6 +55,18 @@ class Requests:
             self.families.append((len(self.requests), who))
             return who.thread
         return who.thread if self.clients == "thread" else who.process
+
+    def may_ask(self, process: Process, name: str, args: str) -> bool:
+        """Whether a call that has begun, and orders threads, may make a request when it returns. The descriptor of a pipe or a socket is taken to be
+        none of a file by then."""
+        match = DESCRIPTOR.match(args)
+        if name not in MOVES or match is None or self.order is None:
+            return name in MOVES or name == "sendfile"
+        found = process.files.get(int(match[1]))
+        if found is not None:
+            return found.file is not ELSEWHERE and found.path not in self.order.fifos
+        path = absolute(match[2])
+        return path is not None and not self.names.is_outside(path) and path not in self.order.fifos
 
     def needs(self, file: File) -> None:
         """The next request finds a file by its name."""
