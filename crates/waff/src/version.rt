@@ -7,4 +7,4 @@ pub const VERSION: &str = "0.1.0";
 pub const LONG_VERSION: &str = "\
 0.1.0
 logic: dac8208d650f15bf
-sources: e61a6a1cf9e67d34";
+sources: 3bdfda1da16de1ed";

@@ -2,12 +2,13 @@
 
 ghost use Rattle.std.specs.Prelude.{◌≡◌, [], IfOk};
 
+use smallvec::SmallVec;
 use std::alloc::{AllocError, Global};
 use std::marker::Model;
 use std::sync::Arc;
 
 /// A message that another awaits, and how many ticks after its finish the other is issued at the soonest.
-#[derive(Clone, Copy, Debug, PartialEq)]
+#[derive(Clone, Copy, Debug, Default, PartialEq)]
 pub struct Await {
     /// The number of the message that is awaited, from 1.
     pub message: u32,
@@ -16,9 +17,9 @@ pub struct Await {
 }
 
 /// The messages that a message awaits by its list. A list lies elsewhere, so that the many messages that have
-/// none are hardly longer for it, and copies share it.
+/// none are hardly longer for it, and copies share it. One of up to four lies in one allocation.
 pub struct Awaits {
-    list: Option<Arc<Vec<Await>>>,
+    list: Option<Arc<SmallVec<Await, 4>>>,
 }
 
 impl Model for Awaits {
@@ -47,7 +48,7 @@ impl Awaits {
     }
 
     /// These messages.
-    pub fn of(alloc: Global, list: Vec<Await>) -> Result<Self, AllocError>
+    pub fn of(alloc: Global, list: SmallVec<Await, 4>) -> Result<Self, AllocError>
         ensures { IfOk result (λ awaits. awaits ≡ list.items) }
     {
         if list.is_empty() {

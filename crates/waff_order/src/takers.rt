@@ -78,7 +78,7 @@ impl Takers {
             → AreTouched (if is_root then m else slice_index latest.now root)
             (note_uses m states uses.now) self.new.touched.items) }
     {
-        if uses.is_empty() && !is_root {
+        if uses.is_empty() && (!is_root || self.touched.is_empty()) {
             return Ok(());
         }
         let root = latest.at(root);

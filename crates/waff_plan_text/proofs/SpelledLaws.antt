@@ -3,6 +3,7 @@ use Rattle.std.proofs.Common.{◌≡◌, ◌≢◌, ℕ, suc, ◌+◌, ◌≤◌
 use Rattle.std.specs.Prelude.{◌==◌, is_some, nat_le, ok_or, option_map, if◌then◌else◌}
 use Rattle.std.specs.Str.{bytes_eq}
 use Rattle.std.proofs.lemmas.Bool.{and_parts, eqb-true, eqb-false, le-leb, leb-true, le-ltb, ne_eqb}
+use Rattle.std.proofs.lemmas.List.{nil_from_length}
 use Rattle.std.proofs.lemmas.List.Elements.{All-cons, All-head, All-nil, All-tail}
 use Rattle.std.proofs.lemmas.Slice.Eq.{bytes_eq-Decides}
 use Rattle.waff_model.specs.declared.limits.TheConstants.{MAX_TICK, MAX_WORKERS}
@@ -129,10 +130,6 @@ ok_workers text None is = rw is refl
 ok_workers text (Some k) (is, within) = rw (not_dash text k is, within_is 1 MAX_WORKERS text k is within.from within.to) refl
 
 -- the chain
-no_bytes : (text : Field) → length text ≡ 0 → text ≡ []
-no_bytes [] h = refl
-no_bytes (b ∷ bs) h = absurd (omega (arith, h))
-
 walk_ok : (messages : ℕ) (texts : List Field) (numbers : List ℕ) → walk link_of same messages texts ≡ Ok numbers
     → (map number_of texts ≡ map Some numbers) × All (IsAmongFirst messages) numbers
 unfolding walk
@@ -178,7 +175,7 @@ chain_text_ok messages text chain h = by (length text == 0) refl (walk link_of s
         → (if t then Ok [] else (r >>= few messages)) ≡ Ok chain → AreNumbers text chain × IsListed messages chain
     by true none r are same =
         let whole : [] ≡ chain = cc in
-        (inl (no_bytes text (eqb-true (length text) 0 none), sym whole), rw (← whole) (record { each = All-nil (IsAmongFirst messages); few = omega arith }))
+        (inl (nil_from_length text (eqb-true (length text) 0 none), sym whole), rw (← whole) (record { each = All-nil (IsAmongFirst messages); few = omega arith }))
     by false is (Err e) are same = absurd (cc)
     by false is (Ok ns) are same =
         some ns (λ none. eqb-false (length text) 0 is (ap length none)) (are ns refl) (nat_le (length ns) messages) refl same
@@ -186,7 +183,7 @@ chain_text_ok messages text chain h = by (length text == 0) refl (walk link_of s
 ok_chain_text : (messages : ℕ) (text : Field) (chain : List ℕ) → AreNumbers text chain → IsListed messages chain → chain_of messages text ≡ Ok chain
 ok_chain_text messages text chain (inl (no_text, none)) listed = rw (no_text, none) refl
 ok_chain_text messages text chain (inr (filled, are)) listed =
-    let long : (length text == 0) ≡ false = ne_eqb (length text) 0 (λ none. filled (no_bytes text none)) in
+    let long : (length text == 0) ≡ false = ne_eqb (length text) 0 (λ none. filled (nil_from_length text none)) in
     rw (long, ok_walk messages (parts 32 text) chain are listed.each, le-leb (length chain) messages listed.few) refl
 
 pub chain_ok : (messages : ℕ) (row : Record) (chain : List ℕ) → chain_line messages row ≡ Ok chain

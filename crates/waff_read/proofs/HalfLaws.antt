@@ -2,6 +2,7 @@
 use Rattle.std.proofs.Common.{◌≡◌, ℕ, ◌+◌, ◌≤◌, List, [], ◌∷◌, ◌++◌, length, Bool, true, false, Option, Some, None, Result, Ok, Err, refl, sym, ap, subst, ◌∙◌, arith}
 use Rattle.std.specs.Prelude.{IfOk, IfSome, ◌-◌, ◌==◌, if◌then◌else◌}
 use Rattle.std.specs.Result.{result_ok}
+use Rattle.std.proofs.lemmas.List.{nil_from_length}
 use Rattle.std.proofs.lemmas.List.Sums.{sum_by-append}
 use Rattle.waff_model.specs.Awaits.{awaited_in}
 use Rattle.waff_model.specs.Layout.{Space}
@@ -225,18 +226,13 @@ spells-both version spaces at behind text first second ms ns None parts h k numb
 spells-both version spaces at behind text first second ms ns (Some all) parts h k number few both room free =
     spells-append version spaces at behind text first second ms ns all.list parts h k number few both room free
 
--- a list of no length
-nothing : {A : Type 0} (xs : List A) → length xs ≡ 0 → xs ≡ []
-nothing [] h = refl
-nothing (x ∷ xs) h = absurd (omega (arith, h))
-
 -- the trace of a text whose header is read by itself
 pub trace-behind : (newest : Version) (spaces : List Space) (text first rows : List ℕ) (header : Arrivals) (ns : List Message)
     → records_of text ≡ records_of first ++ records_of rows
     → trace_of newest spaces first ≡ Ok header → length header.messages ≡ 0 → Spells header.version spaces 2 rows ns
     → trace_of newest spaces text ≡ Ok (record { version = header.version; sizes = sizes_of spaces; messages = ns })
 trace-behind newest spaces text first rows header ns parts h none k =
-    rw parts (trace-append newest spaces (records_of first) (records_of rows) header ns h (nothing header.messages none) k)
+    rw parts (trace-append newest spaces (records_of first) (records_of rows) header ns h (nil_from_length header.messages none) k)
 
 -- the trace that is made of what was read
 pub made-long : (newest : Version) (spaces : List Space) (text : List ℕ) (all : Arrivals) {E : Type 0} (r : Result Arrivals E) (o : Option Arrivals)

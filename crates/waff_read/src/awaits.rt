@@ -7,7 +7,7 @@ ghost use Rattle.waff_read.specs.Awaits as awaits;
 
 use crate::place::Place;
 use crate::trace_fault::TraceFault;
-use memchr::memchr_iter;
+use smallvec::SmallVec;
 use std::alloc::Global;
 use waff_model::limits::MAX_THINK;
 use waff_model::{Await, Awaits};
@@ -44,20 +44,14 @@ fn read_await(before: u32, own: u32, piece: &str) -> Result<Await, TraceFault>
     }
 }
 
-// For how many messages of a text to make room.
-fn room_for(text: &[u8], own: u32) -> usize {
-    let spaces = memchr_iter(b' ', text).count();
-    spaces.saturating_add(1).min(own as usize)
-}
-
 // The list of message `own` that a text spells.
-fn read_list(alloc: Global, own: u32, text: &str) -> Result<Vec<Await>, Stop<TraceFault>>
+fn read_list(alloc: Global, own: u32, text: &str) -> Result<SmallVec<Await, 4>, Stop<TraceFault>>
     ensures { Gives (λ list. list.items) result (awaits.list_of own text.now) }
 {
+    let mut list = SmallVec::new(alloc);
     if text.is_empty() {
-        return Ok(Vec::new(alloc));
+        return Ok(list);
     }
-    let mut list = Vec::with_capacity(alloc, room_for(text.as_bytes(), own))?;
     let mut before = 0;
     for piece in text.split(' ') {
         match read_await(before, own, piece) {

@@ -9,10 +9,10 @@ use Rattle.waff_read.proofs.awaits.read_list.Goals as goal
 
 pub returns-then-is_empty : goal.returns-then-is_empty
 returns-then-is_empty c =
-    list-none c.args.own c.args.text.now c.new.result.items (sym c.is_empty.ensures ∙ c.if-is_empty.true) c.new.ensures.items
+    list-none c.args.own c.args.text.now c.new-list.result.items (sym c.is_empty.ensures ∙ c.if-is_empty.true) c.new-list.ensures.items
 
 pub loop-piece-init : goal.loop-piece-init
-loop-piece-init c = rw c.in_ok-list.ensures.items (with_front-nil _)
+loop-piece-init c = rw c.new-list.ensures.items (with_front-nil _)
 
 pub returns-in-Err : goal.returns-in-Err
 returns-in-Err c =
@@ -31,7 +31,7 @@ loop-piece-preserved c =
     let turn = YieldsList-turn (YieldsList-from_str_split {s = c.into_iter-piece-iterator.result} 32 c.args.text.now (lit< tt) (search rules) (search rules) (search rules))
     c.loop-piece.yielded _ c.loop-piece.yielded_by _ _ c.in-Some.piece c.in-Some.is c.next.ensures.steps in
     let more = piece-more c.loop-piece.before c.args.own (length c.loop-piece.yielded) c.args.text.now c.in-Some.piece.now c.loop-piece.list.items turn.0 turn.1 c.in-Ok.found c.in-Ok.ensures in
-    rw (c.in_ok-push-in-Ok.ensures.items, length_push c.loop-piece.yielded c.in-Some.piece) (more ∙ c.loop-piece.invariant)
+    rw (c.in_ok-push-in-Ok.ensures.ok, length_push c.loop-piece.yielded c.in-Some.piece) (more ∙ c.loop-piece.invariant)
 
 pub returns : goal.returns
 returns c =
