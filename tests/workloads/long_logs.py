@@ -12,6 +12,8 @@ from calling import TOOL, check
 LINES = 100000
 # A log of which little is kept has so many requests, and of two such logs the peaks of memory may differ by so many KiB.
 KEPT, MORE = 20, 3 << 10
+# A log of threads under a lock has so many requests, of each of which so many bytes may be kept for the order.
+LOCKED, OF_EACH = 10_000, 1_000
 
 
 def long_logs() -> Iterator[tuple[list[str], list[str]]]:
@@ -95,19 +97,40 @@ def ordering_log(path: pathlib.Path, idle: int) -> None:
             file.write(f"{who} {1000 + n // 20000}.{n % 20000 * 50:06} {text}\n")
 
 
+def locked_log(path: pathlib.Path) -> None:
+    """A log of eight threads that write in turn, each under a lock of all."""
+    taken, given = (f"fcntl(5</srv/lock>, {call}, {{l_type={kind}, l_whence=SEEK_SET, l_start=0, l_len=0}}) = 0" for call, kind in (
+        ("F_SETLKW", "F_WRLCK"), ("F_SETLK", "F_UNLCK")))
+    with open(path, "w") as file:
+        for n in range(3 * LOCKED):
+            turn, at = n // 3, 10**9 + n * 50
+            call = (taken, f'pwrite64(4</srv/f{turn % 8}>, ""..., 4096, {turn % 512 * 4096}) = 4096', given)[n % 3]
+            file.write(f"{100 + turn % 8} {at // 10**6}.{at % 10**6:06} {call} <0.000034>\n")
+
+
+def peak(scratch: pathlib.Path, order: str) -> tuple[int, int]:
+    """The peak of memory of an import, in KiB, and how many messages it made; 0 where it did not end well."""
+    with open(scratch / "idle.csv", "w") as out:
+        words: list[str | pathlib.Path] = [TOOL, "strace", scratch / "idle.strace", "--order", order, "--tree", scratch / "idle.toml"]
+        process = subprocess.Popen(words, stdin=subprocess.DEVNULL, stdout=out, stderr=subprocess.DEVNULL)
+        _, status, used = os.wait4(process.pid, 0)
+        process.returncode = os.waitstatus_to_exitcode(status)
+    made = len((scratch / "idle.csv").read_text().splitlines()) - 1
+    return used.ru_maxrss, 0 if process.returncode else made
+
+
 def lean(scratch: pathlib.Path) -> None:
     """What is not kept of a log takes no memory: one that is many times as long, with as many requests, has the same peak. Nor do calls that order
-    threads, also not those that last as long as the log."""
+    threads, also not those that last as long as the log; and of what a request comes after its lists alone are kept."""
     for log, order, sizes in ((idle_log, "all", (50, 5000)), (idle_log, "none", (50, 5000)), (ordering_log, "all", (1000, 5000))):
         peaks = []
         for idle in sizes:
             log(scratch / "idle.strace", idle)
-            with open(scratch / "idle.csv", "w") as out:
-                words: list[str | pathlib.Path] = [TOOL, "strace", scratch / "idle.strace", "--order", order, "--tree", scratch / "idle.toml"]
-                process = subprocess.Popen(words, stdin=subprocess.DEVNULL, stdout=out, stderr=subprocess.DEVNULL)
-                _, status, used = os.wait4(process.pid, 0)
-                process.returncode = os.waitstatus_to_exitcode(status)
-            kept = len((scratch / "idle.csv").read_text().splitlines())
-            check(f"{log.__name__}, --order {order}, {idle} lines to a request: kept", process.returncode == 0 and kept > KEPT)
-            peaks.append(used.ru_maxrss)
+            most, made = peak(scratch, order)
+            check(f"{log.__name__}, --order {order}, {idle} lines to a request: kept", made >= KEPT)
+            peaks.append(most)
         check(f"{log.__name__}, --order {order}: memory of a long log", peaks[1] < peaks[0] + MORE, peaks)
+    locked_log(scratch / "idle.strace")
+    (alone, made), (ordered, also) = peak(scratch, "none"), peak(scratch, "lock")
+    check("locked_log: kept", made == also == LOCKED, (made, also))
+    check("locked_log: memory of what requests come after", (ordered - alone) * 1024 < OF_EACH * LOCKED, (alone, ordered))

@@ -9,7 +9,7 @@ from collections.abc import Callable, Iterator, Sequence
 import orders
 from calling import GOOD, HERE, PLAIN, WITH_LISTS, called, check, run, same, text, waff
 from wafftrace import limits, lists, strace_ahead
-from wafftrace.order_frontier import Entry, Frontiers
+from wafftrace.order_frontier import NUMBER, Entry, Frontiers, Known
 
 # The fields of messages; and whose each is, and when it is issued.
 Rows = list[list[str]]
@@ -153,8 +153,8 @@ def laws(scratch: pathlib.Path) -> None:
 def unreduced(given: Sequence[object]) -> str:
     """The trace of an import whose lists keep what others make needless."""
 
-    def all_of(_frontiers: Frontiers, _name: str, _own: Entry | None, others: list[tuple[str, int, int]]) -> list[Entry]:
-        return sorted((number, gap) for _, number, gap in others)
+    def all_of(_frontiers: Frontiers, _name: str, _own: Entry | None, others: list[tuple[str, int, int, Known]]) -> list[Entry]:
+        return sorted(((number, gap, known) for _, number, gap, known in others), key=NUMBER)
 
     kept = Frontiers.reduced
     setattr(Frontiers, "reduced", all_of)

@@ -9,7 +9,7 @@ from collections.abc import Callable, Sequence
 from dataclasses import dataclass, field
 from typing import NamedTuple
 
-from .order_frontier import START, Frontiers, Point, Thread
+from .order_frontier import NOTHING_KNOWN, START, Frontiers, Known, Point, Thread
 from .order_locks import BEHIND, Holder, Key, Locks, Range
 from .order_steps import BEGIN, DELAYED, END, EXITS, FORKS, KILLS, POLLS, READS, SLEEPS, WAITS, WRITES, Birth, Step, Whose, descriptor_of
 from .order_streams import ALONE, Channel, Streams, channel_of
@@ -136,7 +136,7 @@ class Walk:
         self.parents: dict[str, str] = {}
         self.connects: dict[tuple[str, str], collections.deque[Point]] = collections.defaultdict(collections.deque)
         self.kills: dict[str, list[tuple[str, Point]]] = collections.defaultdict(list)
-        self.makers: dict[object, tuple[int, str]] = {}
+        self.makers: dict[object, tuple[int, str, Known]] = {}
 
     def take(self, what: int, step: Step) -> None:
         """Takes the beginning of the next step, the end of one, or both, in the order of the places of their lines."""
@@ -152,7 +152,7 @@ class Walk:
         """A thread that the log does not tell to be made."""
         whose = step.whose
         found = self.threads[whose.thread] = Thread(whose.thread, whose.process, whose.box, step.time)
-        found.own[START] = [(-1, step.time)]
+        found.own[START] = [(-1, step.time, NOTHING_KNOWN)]
         self.note(found, whose.number)
         return found
 
@@ -173,7 +173,7 @@ class Walk:
             # What the parent had waited for keeps its kind.
             found.why.update(parent.why)
         else:
-            found.own[START] = [(-1, parent.last)]
+            found.own[START] = [(-1, parent.last, NOTHING_KNOWN)]
 
     def called(self, box: str, number: str) -> str:
         """The latest thread of this number in a box."""
@@ -244,7 +244,8 @@ class Walk:
             for what, key in self.named.get(number, ()):
                 maker = self.makers.get(key) if what == "needs" else None
                 if maker is not None and maker[1] != thread.name:
-                    self.join(thread, Point(0, maker[1], {maker[1]: [(maker[0], 0)]}), 0, "name")
+                    made, name, known = maker
+                    self.join(thread, Point(0, name, {name: [(made, 0, known)]}), 0, "name")
 
     def give_up(self, thread: Thread, step: Step, point: Point) -> None:
         """A record lock is given up."""
@@ -373,10 +374,12 @@ class Walk:
             thread.last = end
 
     def note_makers(self, thread: Thread, step: Step) -> None:
+        # The last request of the thread is one of this call, whose requests share what is known of them.
+        _, _, known = thread.own[thread.name][-1]
         for number in step.requests:
             for what, key in self.named.pop(number, ()):
                 if what == "makes":
-                    self.makers[key] = number, thread.name
+                    self.makers[key] = number, thread.name, known
 
     def not_explained(self, step: Step) -> None:
         if step.end - step.time > NOT_TOLD and step.asked.name in ACQUIRES and step.asked.name not in POLLS:
