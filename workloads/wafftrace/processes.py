@@ -15,8 +15,10 @@ HEAD = re.compile(
 # What stands behind the arguments of a call: its result, perhaps the path of a descriptor or the two ends of a socket (-y, -yy), and
 # how long it took.
 PATH_SHOWN = r"<((?:->|[^<>])*)(?:<[^<>]*>)?>"
+# How strace -T shows how long a call took: seconds, and micro- or nanoseconds.
+LATENCY = r" <(\d{1,9})\.(\d{6}|\d{9})>"
 TAIL = re.compile(
-    rf"(-?\d{{1,18}}|\?|0x[0-9a-f]{{1,16}})(?:{PATH_SHOWN})?([^<>]*?)(?: <(\d{{1,9}})\.(\d{{6}}|\d{{9}})>)?$", re.ASCII
+    rf"(-?\d{{1,18}}|\?|0x[0-9a-f]{{1,16}})(?:{PATH_SHOWN})?([^<>]*?)(?:{LATENCY})?$", re.ASCII
 )
 # The arguments up to the bracket behind them: what stands in quotes, and the paths of descriptors, may have brackets.
 ARGUMENTS = re.compile(r'(?:[^"<)]|"(?:[^"\\]|\\.)*"(?:\.\.\.)?|<(?:->|[^<>])*>|<|\)(?! += ))*\) += ', re.ASCII)

@@ -3,7 +3,7 @@
 import re
 
 from .order_steps import CALLS, Asked, asked_of, what_counts
-from .processes import RESUMED, UNFINISHED, Event, parted
+from .processes import LATENCY, RESUMED, UNFINISHED, Event, parted
 from .strace_names import DESCRIPTOR, PATH, absolute, joined, unescaped
 
 # A call is far from its return if so many lines are between them.
@@ -11,9 +11,14 @@ FAR = 4096
 # Calls that show what a file is, and how they show a named pipe.
 NODES = frozenset(("mknod", "mknodat", "stat", "lstat", "fstat", "fstat64", "newfstatat", "statx"))
 FIFO = re.compile(r'(?:_mode=|", )S_IFIFO')
-LATENCY = re.compile(r" <\d{1,9}\.(?:\d{6}|\d{9})>$", re.ASCII)
+MEASURED = re.compile(rf"{LATENCY}$", re.ASCII)
 # In place of a line.
 NOWHERE = -1
+
+
+def shows_fifo(name: str, args: str, result: str) -> bool:
+    """Whether a call that answers this shows that a file is a named pipe."""
+    return name in NODES and result == "0" and FIFO.search(args) is not None
 
 
 class Ahead:
@@ -33,7 +38,7 @@ class Ahead:
     def take(self, at: int, event: Event) -> None:
         """Takes the next line of the log, which stands at this place."""
         rest = event.rest
-        if not self.has_latencies and rest[-1:] == ">" and LATENCY.search(rest):
+        if not self.has_latencies and rest[-1:] == ">" and MEASURED.search(rest):
             self.has_latencies = True
         if rest[:1] in "<+" or UNFINISHED in rest:
             self.half(at, event.pid or "", event)
@@ -79,7 +84,7 @@ class Ahead:
         """A call that returns here may show a named pipe: by a descriptor, or by a name in a folder that is shown or the current one."""
         name, _, args = text.partition("(")
         args, tail = parted(args)
-        if tail is None or name not in NODES or tail[1] != "0" or not FIFO.search(args):
+        if tail is None or not shows_fifo(name, args, tail[1]):
             return
         match = PATH.match(args)
         if match is None:

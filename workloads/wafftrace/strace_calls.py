@@ -8,7 +8,7 @@ from .order import Record
 from .order_steps import CALLS as ORDERED
 from .order_steps import NO_REQUESTS, Step, asked_of, what_counts
 from .processes import FORKED, FORKS, RESUMED, UNFINISHED, Birth, Children, Event, Process, Who, nanoseconds, parted
-from .strace_ahead import FIFO, NODES, NOWHERE, Ahead
+from .strace_ahead import NOWHERE, Ahead, shows_fifo
 from .strace_names import DESCRIPTOR, SAY_FOLDER, Call, absolute
 from .strace_requests import CALLS, Requests
 
@@ -172,7 +172,7 @@ class Calls:
             return is_left
         result, path, behind, seconds, digits = tail.groups()
         took = nanoseconds(seconds, digits) if digits else None
-        if self.requests.order is not None and name in NODES and result == "0" and FIFO.search(args):
+        if self.requests.order is not None and shows_fifo(name, args, result):
             self.note_fifo(self.requests.order, at, process, args)
         if order is None:
             return self.returned(at, process, name, args, (result, path), (time, took))
