@@ -3,10 +3,25 @@
 use std::alloc::{AllocError, Global};
 use std::process::Abort;
 use std::thread::Threads;
-use waff_assign::{Assigned, assign_by_threads};
+use waff_assign::{Assigned, LockUse, assign_by_threads};
 use waff_model::{Await, Cell, Layout, Op, Trace, Tree, Version};
 use waff_read::{TraceError, read_hierarchy, read_trace_by_threads};
 use waff_samples::H1;
+
+/// A space of eight cells, whose locks readers share.
+const SHARED: &str = "format = 3\n\
+model = \"hierarchical\"\n\
+[[space]]\n\
+name = \"f\"\n\
+size = 8\n\
+locks = \"shared\"\n\
+[[affinity]]\n\
+name = \"Serial\"\n\
+[[map]]\n\
+space = \"f\"\n\
+unit = 8\n\
+to = [\"Serial\"]\n\
+";
 
 /// A trace of so many messages, of which message `n` has the cost `n`, and reads cell `n % 8` of the
 /// first space.
@@ -65,6 +80,34 @@ fn have_the_owners_of_their_cells(rt: HostRuntime) {
     assert!(rt; assigned.len() == 65536);
     for n in 1..65537 {
         is_assigned(&rt, layout.tree(), &assigned, n);
+    }
+    drop(assigned);
+    drop(trace);
+    drop(layout);
+}
+
+/// Message `n` has to share the lock of its cell, and to hold nothing else.
+fn is_sharing(rt: &impl Abort, assigned: &Assigned, n: u32) {
+    assert!(rt; 1 <= n && n <= assigned.len(), "{n}");
+    let uses = assigned.uses(n);
+    assert!(rt; assigned.affinity(n).is_none() && uses.len() == 1, "{n}");
+    let wanted = LockUse {
+        lock: n % 8,
+        alone: false,
+    };
+    assert!(rt; uses[0] == wanted, "{n}");
+}
+
+#[test]
+fn share_the_locks_of_their_cells(rt: HostRuntime) {
+    let layout = read_hierarchy(rt.alloc(), SHARED.as_bytes()).expect(&rt, "a hierarchy");
+    let text = readers(rt.alloc(), 65536).expect(&rt, "a text");
+    let trace = read_trace_by_threads(&rt, rt.alloc(), &layout, Version::V3, text.as_bytes());
+    let trace = trace.expect(&rt, "a trace");
+    let assigned = assign_by_threads(&rt, rt.alloc(), &layout, &trace).expect(&rt, "locks");
+    assert!(rt; assigned.len() == 65536);
+    for n in 1..65537 {
+        is_sharing(&rt, &assigned, n);
     }
     drop(assigned);
     drop(trace);

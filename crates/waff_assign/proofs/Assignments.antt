@@ -3,8 +3,8 @@ use Rattle.std.proofs.Common.{◌≡◌, ℕ, zero, suc, refl, ◌+◌, ◌-◌,
 use Rattle.std.specs.Prelude.{IfSome}
 use Rattle.std.specs.List.{AllZip, range_with_len}
 use Rattle.std.specs.List.Sorted.{IsStrictlySortedBy}
-use Rattle.std.proofs.lemmas.Bool.{cases_eq}
-use Rattle.std.proofs.lemmas.List.{get_or_append_left, get_or_default, get_or_push, length_push}
+use Rattle.std.proofs.lemmas.Bool.{cases_eq, cases_lt}
+use Rattle.std.proofs.lemmas.List.{get_or-append_right, get_or_append_left, get_or_default, get_or_push, length-append, length_push}
 use Rattle.std.proofs.lemmas.List.Elements.{All-weaker, Contains-get_or}
 use Rattle.std.proofs.lemmas.Option.{get_or_from_slice_get, none-some, same_Some, slice_get_cases, slice_get_within}
 use Rattle.waff_model.specs.Cells.{LiesIn, cells_of}
@@ -17,9 +17,10 @@ use Rattle.waff_model.specs.declared.op.Op.TheVariants.{Set, Add, Copy, Swap, Re
 use Rattle.waff_model.specs.declared.tree.AffinityId.{AffinityId}
 use Rattle.waff_model.proofs.TraceLemmas.{slice_index-sizes_of}
 use Rattle.waff_assign.specs.Footprint.{cell_cmp}
-use Rattle.waff_assign.specs.Held.{AreKnown, AreLocksBelow, Held, IsHeldWithin, nothing}
-use Rattle.waff_assign.specs.Lowest.{IsAffinityOf, IsAssignment, IsHeldBy, IsInFootprint, IsLowest, IsSomeLowestOf, ListsLocks, ListsUses}
+use Rattle.waff_assign.specs.Held.{AreKnown, AreLocksBelow, Held, nothing}
+use Rattle.waff_assign.specs.Lowest.{IsAffinityOf, IsAssignment, IsInFootprint, IsLowest, IsSomeLowestOf, ListsLocks, ListsUses}
 use Rattle.waff_assign.specs.Order.{helds_of, uses_at}
+use Rattle.waff_assign.specs.Parts.{AreHeldBehind, IsHeldRightly, IsPart}
 use Rattle.waff_assign.specs.Uses.{is_locked, locked_cells}
 use Rattle.waff_assign.specs.declared.held.LockUse.{LockUse}
 use Rattle.waff_assign.proofs.Elements.{first_in, in_filter, none_in_nil}
@@ -34,31 +35,48 @@ cells_of_layout sizes spaces cells same lie k d within =
     let size : get_or sizes cell.space 0 ≡ size_at spaces cell.space = ap (λ xs. get_or xs cell.space 0) same ∙ slice_index-sizes_of spaces cell.space in
     subst (λ n. cell.index < n) size (lie k d within)
 
--- a message holds what it should, of the tree and of the locks
-pub record IsHeldRightly (layout : Hierarchy) (locks : List Cell) (message : Message) (held : Held) : Type 0 where
-  pub holds : IsHeldBy layout locks message held
-  pub known : IsHeldWithin (length layout.tree) held
-  pub below : All (λ u. u.lock < length locks) held.uses
-
 -- so do the first messages
 abbrev pub AreHeldRightly : Hierarchy → List Cell → List Message → List Held → Type 0
 AreHeldRightly layout locks messages helds =
     (k : ℕ) (message : Message) → k < length helds → slice_get messages k ≡ Some message
     → IsHeldRightly layout locks message (get_or helds k nothing)
 
--- one message more
-pub held_more : (layout : Hierarchy) (locks : List Cell) (messages : List Message) (helds : List Held) (message : Message) (held : Held)
-    → slice_get messages (length helds) ≡ Some message → IsHeldRightly layout locks message held
-    → AreHeldRightly layout locks messages helds → AreHeldRightly layout locks messages (helds ++ held ∷ [])
-held_more layout locks messages helds message held is right all k m within at =
-    elim (cases_eq k (length helds)) [
-      | inl here ↦
-          let same : message ≡ m = same_Some message m (sym is ∙ ap (slice_get messages) (sym here) ∙ at) in
-          rw (get_or_push helds held nothing k (sym here)) (subst (λ x. IsHeldRightly layout locks x held) same right)
-      | inr other ↦
-          let short : k < length helds = omega (arith, length_push helds held) in
-          rw (get_or_append_left helds (held ∷ []) nothing k short) (all k m short at)
-    ]
+module _ (layout : Hierarchy) (locks : List Cell) (messages : List Message) (before : ℕ) where
+  -- one message more of a part
+  pub held_more : (helds : List Held) (message : Message) (held : Held)
+      → slice_get messages (before + length helds) ≡ Some message → IsHeldRightly layout locks message held
+      → AreHeldBehind layout locks messages before helds → AreHeldBehind layout locks messages before (helds ++ held ∷ [])
+  held_more helds message held is right all k m within at =
+      elim (cases_eq k (length helds)) [
+        | inl here ↦
+            let same : message ≡ m = same_Some message m (sym is ∙ ap (λ i. slice_get messages (before + i)) (sym here) ∙ at) in
+            rw (get_or_push helds held nothing k (sym here)) (subst (λ x. IsHeldRightly layout locks x held) same right)
+        | inr other ↦
+            let short : k < length helds = omega (arith, length_push helds held) in
+            rw (get_or_append_left helds (held ∷ []) nothing k short) (all k m short at)
+      ]
+
+  -- another part behind it
+  pub part_more : (middle end : ℕ) (first second : List Held) → IsPart layout locks messages before middle first
+      → IsPart layout locks messages middle end second → IsPart layout locks messages before end (first ++ second)
+  part_more middle end first second front back = record {
+    count = omega (arith, front.count, back.count, length-append first second);
+    each = λ k message within at. elim (cases_lt k (length first)) [
+      | inl short ↦
+          rw (get_or_append_left first second nothing k short) (front.each k message short at)
+      | inr past ↦
+          let place : middle + (k - length first) ≡ before + k = omega (arith, front.count) in
+          rw (get_or-append_right first second (length first) k nothing refl past)
+          (back.each (k - length first) message (omega (arith, length-append first second)) (ap (slice_get messages) place ∙ at))
+    ];
+  }
+
+-- the messages behind none are all
+pub part_of_all : (layout : Hierarchy) (locks : List Cell) (messages : List Message) (helds : List Held) → AreHeldBehind layout locks messages 0 helds
+    → AreHeldRightly layout locks messages helds
+part_of_all layout locks messages helds all k message within at =
+    let place : 0 + k ≡ k = omega arith in
+    all k message within (ap (slice_get messages) place ∙ at)
 
 -- what a message holds is of the locks where its uses are listed
 pub below_locks : (layout : Hierarchy) (ops : List Op) (locks : List Cell) (uses : List LockUse) → ListsUses layout ops locks uses

@@ -2,7 +2,7 @@
 use Rattle.std.proofs.Common.{◌∷◌, ◌+◌, ◌++◌, ap₂, inl, inr, length-append, ◌≡◌, ℕ, zero, suc, ◌-◌, ◌<◌, ◌≤◌, List, [], length, map, Option, None, option_map, refl, ap, sym, ◌∙◌, arith, take, drop, get_or, length-drop}
 use Rattle.std.specs.Prelude.{slice_index, unwrap_or}
 use Rattle.std.proofs.lemmas.Bool.{cases_eq}
-use Rattle.std.proofs.lemmas.List.{drop-append-le, drop_at, get_or_append_left, get_or_push, length_push, take-append-le, take_all, same_lists, get_or-map, nil_from_length, length-map, length-take-le}
+use Rattle.std.proofs.lemmas.List.{drop-append-le, drop_at, get_or_append_left, get_or_push, length_push, take-append-le, take_all, take_more, same_lists, get_or-map, nil_from_length, length-map, length-take-le}
 use Rattle.std.proofs.lemmas.List.FromFn.{get_or-map-range_with_len, length-map-range_with_len}
 use Rattle.waff_model.specs.declared.tree.AffinityId.{AffinityId}
 use Rattle.waff_assign.specs.Held.{AreLocksBelow, AreUnlocked, Held, nothing}
@@ -90,6 +90,16 @@ held_same : (affinities : List (Option AffinityId)) (uses : List LockUse) (ends 
     → held_at affinities uses ends k ≡ record { affinity = option_map (λ (a : AffinityId). a.0) affinity; uses = run }
 held_same affinities uses ends k affinity run is_affinity is_run =
     ap₂ (λ (o : Option AffinityId) us. mk_held (option_map (λ (a : AffinityId). a.0) o) us) is_affinity is_run
+
+-- the first so many, and the next, which holds this
+pub helds_next : (affinities : List (Option AffinityId)) (uses : List LockUse) (ends : List ℕ) (k : ℕ) (affinity : Option AffinityId) (run : List LockUse)
+    → k < length affinities → get_or affinities k None ≡ affinity → uses_at uses ends k ≡ run
+    → take (k + 1) (helds_of affinities uses ends)
+    ≡ take k (helds_of affinities uses ends) ++ record { affinity = option_map (λ (a : AffinityId). a.0) affinity; uses = run } ∷ []
+helds_next affinities uses ends k affinity run within is_affinity is_run =
+    let helds = helds_of affinities uses ends in
+    let here = helds_at affinities uses ends k nothing within ∙ held_same affinities uses ends k affinity run is_affinity is_run in
+    take_more helds k nothing (omega (arith, helds_count affinities uses ends)) ∙ ap (λ h. take k helds ++ h ∷ []) here
 
 -- one message more, with these uses
 module _ (affinities : List (Option AffinityId)) (uses more : List LockUse) (ends : List ℕ) (affinity : Option AffinityId) (end : ℕ) where

@@ -3,6 +3,7 @@ pub mod Holding
 mod Helds
 pub mod Elements
 mod Adding
+mod Once
 mod Numbering
 mod UseLists
 mod Lowering

@@ -7,3 +7,4 @@ pub mod Instance
 pub mod Case
 pub mod Uses
 pub mod MoreLocks
+pub mod Parts

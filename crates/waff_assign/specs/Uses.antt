@@ -1,6 +1,6 @@
 -- The uses of locks by operations, in the order in which these name the cells, and each lock once.
 use Rattle.std.specs.Prelude.{ℕ, ◌+◌, ◌*◌, ◌≤◌, ◌++◌, ◌&&◌, Bool, true, false, not, if◌then◌else◌, nat_le, List, [], ◌∷◌}
-use Rattle.std.specs.Prelude.{length, ◌↔◌, Contains}
+use Rattle.std.specs.Prelude.{length, slice_range, ◌↔◌, Contains}
 use Rattle.std.specs.List.{filter, flat_map, position_or_len}
 use Rattle.std.specs.List.Sorted.{IsStrictlySortedBy}
 use Rattle.waff_model.specs.Cells.{cells_of, cells_written_by}
@@ -27,6 +27,10 @@ locked_cells spaces cells = filter (is_locked spaces) cells
 abbrev pub all_locked_cells : List Space → List Message → List Cell
 all_locked_cells spaces messages = flat_map (λ message. locked_cells spaces (cells_of message.ops)) messages
 
+-- those of the messages behind the first so many, up to the end
+abbrev pub locked_cells_between : List Space → List Message → ℕ → ℕ → List Cell
+locked_cells_between spaces messages before end = all_locked_cells spaces (slice_range messages before end)
+
 -- the number of a lock: the place of its cell
 abbrev pub number_in : List Cell → Cell → ℕ
 number_in locks cell = position_or_len (λ lock. cell_eq lock cell) locks
@@ -40,6 +44,12 @@ pub record AreLocks (locks : List Cell) : Type 0 where
 pub record Adds (before after more : List Cell) : Type 0 where
   pub each : (cell : Cell) → Contains after cell ↔ Contains (before ++ more) cell
   pub few : length after ≤ length before + length more
+
+-- these cells, each once, in order
+pub record ListsOnce (named cells : List Cell) : Type 0 where
+  pub each : (cell : Cell) → Contains cells cell ↔ Contains named cell
+  pub rising : IsStrictlySortedBy cell_cmp cells
+  pub few : length cells ≤ length named
 
 -- an operation that only reads the cell shares a lock of this kind
 abbrev pub are_shared : Locking → Bool

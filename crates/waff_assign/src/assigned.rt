@@ -168,7 +168,7 @@ fn numbers_or(
 }
 
 /// The uses of locks by the message at this place.
-fn uses_at<'a>(uses: &'a [LockUse], ends: &[usize], index: usize) -> &'a [LockUse]
+pub(crate) fn uses_at<'a>(uses: &'a [LockUse], ends: &[usize], index: usize) -> &'a [LockUse]
     requires listed { index < length ends.now }
     requires rising { start_at ends.now index ≤ slice_index ends.now index }
     requires within { slice_index ends.now index ≤ length uses.now }

@@ -13,9 +13,7 @@ ghost use Rattle.waff_model.specs.declared.cell.Cell.{Cell};
 
 use crate::Assigned;
 use crate::covering::lowest_above;
-use crate::gathered::Gathered;
-use crate::locks::Locks;
-use crate::uses::list_uses;
+use crate::gathering::{assign_with_locks, assign_with_locks_by_threads};
 use rayon::prelude::*;
 use std::alloc::{AllocError, Global};
 use std::thread::Threads;
@@ -37,7 +35,7 @@ pub fn assign(alloc: Global, layout: &Layout, trace: &Trace) -> Result<Assigned,
     Ok(Assigned::without_locks(alloc, affinities))
 }
 
-/// What each message holds, as `assign` finds it, but without locks by several threads where there are many messages.
+/// What each message holds, as `assign` finds it, but by several threads where there are many messages.
 pub fn assign_by_threads<R: Threads + Sync>(
     rt: &R,
     alloc: Global,
@@ -49,7 +47,7 @@ pub fn assign_by_threads<R: Threads + Sync>(
     ensures known { IfOk result (AreKnown layout.now.tree) }
 {
     if layout.has_locks() {
-        return assign_with_locks(alloc, layout, trace);
+        return assign_with_locks_by_threads(rt, alloc, layout, trace);
     }
     let affinities = (1..trace.len() + 1)
         .into_par_iter()
@@ -62,24 +60,6 @@ pub fn assign_by_threads<R: Threads + Sync>(
         )
         .collect(rt, alloc)?;
     Ok(Assigned::without_locks(alloc, affinities))
-}
-
-/// What each message holds, where some spaces have locks.
-fn assign_with_locks(alloc: Global, layout: &Layout, trace: &Trace) -> Result<Assigned, AllocError>
-    requires fits { trace.now.sizes ≡ sizes_of layout.now.spaces }
-    ensures assignment { IfOk result (IsAssignment layout.now trace.now.messages) }
-    ensures known { IfOk result (AreKnown layout.now.tree) }
-{
-    let locks = Locks::of(alloc, layout, trace)?;
-    let mut gathered = Gathered::with_capacity(alloc, trace.len() as usize)?;
-    let mut uses = Vec::new(alloc);
-    let mut seen = Vec::new(alloc);
-    for n in 1..trace.len() + 1 {
-        let ops = &trace.message(n).ops;
-        list_uses(&mut uses, &mut seen, layout, &locks, ops)?;
-        gathered.push(lowest_without_locks(layout, ops), &uses)?;
-    }
-    Ok(gathered.assigned(locks.len()))
 }
 
 /// The lowest affinity that covers the footprint of message `n`.
@@ -133,7 +113,7 @@ fn lowest_of_op(layout: &Layout, op: Op) -> AffinityId
 }
 
 /// The lowest affinity that covers those cells without locks that the operations name; none where there is none.
-fn lowest_without_locks(layout: &Layout, ops: &Ops) -> Option<AffinityId>
+pub(crate) fn lowest_without_locks(layout: &Layout, ops: &Ops) -> Option<AffinityId>
     requires cells { All (IsCell layout.now.spaces) (cells_of ops.now) }
     ensures lowest { IsAffinityOf layout.now ops.now (option_map (λ a. a.0) result) }
     ensures within { IfSome result (λ a. a.0 < length layout.now.tree) }

@@ -5,6 +5,7 @@ ghost use Rattle.waff_assign.specs.Held.{AreLocksBelow};
 ghost use Rattle.waff_model.specs.declared.limits.TheConstants.{MAX_MESSAGES};
 
 use crate::Assigned;
+use crate::assigned::uses_at;
 use crate::held::LockUse;
 use std::alloc::{AllocError, Global};
 use std::marker::Model;
@@ -73,6 +74,21 @@ impl Gathered {
         self.uses.extend_from_slice(uses)?;
         self.affinities.push_reserved(affinity);
         self.ends.push_reserved(self.uses.len());
+        Ok(())
+    }
+
+    /// These messages more.
+    pub(crate) fn append(&mut self, more: Gathered) -> Result<(), AllocError>
+        ensures { OnOk result (self.new ≡ self.old ++ more) }
+    {
+        let Gathered {
+            affinities,
+            uses,
+            ends,
+        } = more;
+        for k in 0..affinities.len() {
+            self.push(affinities[k], uses_at(&uses, &ends, k))?;
+        }
         Ok(())
     }
 

@@ -8,7 +8,7 @@
 //! - `held`: the use of a lock; `assigned`: what all messages hold, over `gathered`.
 //! - `footprints`: the footprint of a message; `covering`: the lowest affinity that covers cells.
 //! - `locks`: the cells with locks, which number these, over `guesses`; `uses`: the uses of a message.
-//! - `assignment`: what the messages of a trace hold.
+//! - `assignment`: what the messages of a trace hold; `gathering`: the same where some spaces have locks.
 //! - `case`: a trace under a tree, with what they hold.
 //! - `order`: whether two messages are an ordered pair.
 //! - `laws`: what holds of exclusion; `unique`: that one footprint has one lowest affinity, and one
@@ -26,6 +26,7 @@ mod case;
 mod covering;
 mod footprints;
 mod gathered;
+mod gathering;
 mod guesses;
 mod held;
 pub mod laws;

@@ -1,16 +1,20 @@
 //! The locks of the cells that the messages of a trace name.
 
-ghost use Rattle.std.specs.Prelude.{◌≡◌, ◌↔◌, ◌∷◌, [], length, slice_get, All, Contains, IfOk, IsTrue};
+ghost use Rattle.std.specs.Prelude.{◌≡◌, ◌≤◌, ◌↔◌, ◌∷◌, [], length, slice_get, All, Contains, IfOk, IsTrue};
 ghost use Rattle.std.specs.Prelude.{OnOk, Some};
+ghost use Rattle.std.specs.Thread.{IsSync};
 ghost use Rattle.waff_model.specs.Cells.{cells_of, cells_of_op};
 ghost use Rattle.waff_model.specs.Layout.{IsCell};
 ghost use Rattle.waff_model.specs.Messages.{sizes_of};
 ghost use Rattle.waff_assign.specs.Lowest.{ListsLocks};
-ghost use Rattle.waff_assign.specs.Uses.{Adds, locked_cells, number_in};
+ghost use Rattle.waff_assign.specs.Uses.{Adds, AreLocks, ListsOnce, locked_cells, locked_cells_between, number_in};
 
+use crate::gathering::{HALVINGS, MANY};
 use crate::guesses::Guesses;
 use std::alloc::{AllocError, Global};
 use std::marker::Model;
+use std::thread;
+use std::thread::Threads;
 use waff_model::{Cell, Layout, Op, Ops, Trace};
 
 /// The cells with locks that messages name, each once, in order: they number the locks, from 0.
@@ -55,13 +59,30 @@ impl Locks {
         requires fits { trace.now.sizes ≡ sizes_of layout.now.spaces }
         ensures { IfOk result (ListsLocks layout.now trace.now.messages) }
     {
-        let mut cells = Vec::new(alloc);
-        let mut guesses = Guesses::new(alloc, trace.len())?;
-        for n in 1..trace.len() + 1 {
-            add_locked(&mut cells, &mut guesses, layout, &trace.message(n).ops)?;
-        }
-        cells.sort_unstable();
-        cells.dedup();
+        let cells = list(alloc, layout, trace, 0, trace.len())?;
+        Locks::of_cells(alloc, cells, trace.len())
+    }
+
+    /// The same, listed by several threads where there are many messages.
+    pub(crate) fn by_threads<R: Threads + Sync>(
+        rt: &R,
+        alloc: Global,
+        layout: &Layout,
+        trace: &Trace,
+    ) -> Result<Self, AllocError>
+        requires fits { trace.now.sizes ≡ sizes_of layout.now.spaces }
+        ensures { IfOk result (ListsLocks layout.now trace.now.messages) }
+    {
+        let cells = list_halves(rt, alloc, layout, trace, 0, trace.len(), HALVINGS)?;
+        Locks::of_cells(alloc, cells, trace.len())
+    }
+
+    /// The locks of these cells, which so many messages name.
+    fn of_cells(alloc: Global, cells: Vec<Cell>, messages: u32) -> Result<Self, AllocError>
+        requires { AreLocks cells.items }
+        ensures { IfOk result (λ locks. locks ≡ cells.items) }
+    {
+        let mut guesses = Guesses::new(alloc, messages)?;
         for place in 0..cells.len() {
             guesses.put(cells[place], place);
         }
@@ -98,6 +119,86 @@ impl Locks {
             Err(_) => unreachable!("all cells with locks are listed"),
         }
     }
+}
+
+/// The cells with locks that the messages behind the first so many name, up to the end.
+fn list(
+    alloc: Global,
+    layout: &Layout,
+    trace: &Trace,
+    before: u32,
+    end: u32,
+) -> Result<Vec<Cell>, AllocError>
+    requires fits { trace.now.sizes ≡ sizes_of layout.now.spaces }
+    requires order { before ≤ end }
+    requires within { end ≤ length trace.now.messages }
+    ensures { IfOk result (λ cells. ListsOnce
+        (locked_cells_between layout.now.spaces trace.now.messages before end) cells.items) }
+{
+    // Its contract tells that messages are few.
+    let _ = trace.len();
+    let mut cells = Vec::new(alloc);
+    let mut guesses = Guesses::new(alloc, end - before)?;
+    for n in before + 1..end + 1 {
+        add_locked(&mut cells, &mut guesses, layout, &trace.message(n).ops)?;
+    }
+    drop(guesses);
+    keep_once(&mut cells)?;
+    Ok(cells)
+}
+
+/// The same, by a thread for each part of the messages, that are halved so often.
+#[cycle(listing)]
+fn list_halves<R: Threads + Sync>(
+    rt: &R,
+    alloc: Global,
+    layout: &Layout,
+    trace: &Trace,
+    before: u32,
+    end: u32,
+    halvings: u32,
+) -> Result<Vec<Cell>, AllocError>
+    requires fits { trace.now.sizes ≡ sizes_of layout.now.spaces }
+    requires order { before ≤ end }
+    requires within { end ≤ length trace.now.messages }
+    ensures { IfOk result (λ cells. ListsOnce
+        (locked_cells_between layout.now.spaces trace.now.messages before end) cells.items) }
+{
+    if halvings == 0 || end - before < MANY {
+        return list(alloc, layout, trace, before, end);
+    }
+    let middle = before + (end - before) / 2;
+    let front = move || -> Result<Vec<Cell>, AllocError>
+        requires more { IsSync R.row × (1 ≤ halvings) }
+        requires fits { trace.now.sizes ≡ sizes_of layout.now.spaces }
+        requires order { before ≤ middle }
+        requires within { middle ≤ length trace.now.messages }
+        ensures { IfOk result (λ cells. ListsOnce (locked_cells_between layout.entry.now.spaces
+            trace.entry.now.messages before middle) cells.items) }
+    { list_halves(rt, alloc, layout, trace, before, middle, halvings - 1) };
+    let back = move || -> Result<Vec<Cell>, AllocError>
+        requires more { IsSync R.row × (1 ≤ halvings) }
+        requires fits { trace.now.sizes ≡ sizes_of layout.now.spaces }
+        requires order { middle ≤ end }
+        requires within { end ≤ length trace.now.messages }
+        ensures { IfOk result (λ cells. ListsOnce (locked_cells_between layout.entry.now.spaces
+            trace.entry.now.messages middle end) cells.items) }
+    { list_halves(rt, alloc, layout, trace, middle, end, halvings - 1) };
+    let (first, second) = thread::join(rt, front, back);
+    let mut cells = first?;
+    let second = second?;
+    cells.extend_from_slice(&second)?;
+    keep_once(&mut cells)?;
+    Ok(cells)
+}
+
+/// Sorts cells, and keeps each once. Of two lists in order, one behind the other, it makes one in a walk.
+fn keep_once(cells: &mut Vec<Cell>) -> Result<(), AllocError>
+    ensures { OnOk result (ListsOnce cells.old.items cells.new.items) }
+{
+    cells.sort()?;
+    cells.dedup();
+    Ok(())
 }
 
 /// Whether the cell stands at this place.

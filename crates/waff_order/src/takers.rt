@@ -52,6 +52,7 @@ impl Takers {
 
     /// Message `m` joins: appends what it needs, by the locks, of those that joined before, and notes it at the locks
     /// that it uses. `latest` has the latest message in the root at the place `root`, 0 where there is none.
+    #[inline(always)]
     pub fn take(
         &mut self,
         latest: &Spread<u32>,
