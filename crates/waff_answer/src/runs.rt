@@ -1,8 +1,9 @@
 //! The messages run on files, and what is told of that.
-ghost use Rattle.std.specs.Prelude.{◌≡◌, ◌≤◌, ℕ, ◌⊎◌, None, Some, ◌++◌, [], false, true, List, IfErr, IfOk, IfSome, OnOk, string_bytes};
+ghost use Rattle.std.specs.Prelude.{◌≡◌, ◌≤◌, ℕ, ◌⊎◌, None, Ok, Some, ◌++◌, [], false, true, List, IfErr, IfOk, IfSome, OnOk, string_bytes};
 ghost use Rattle.std.specs.Io.KnownBytes.{Appends, Keeps};
 ghost use Rattle.waff_assign.specs.Lowest.{IsAssignment};
 ghost use Rattle.waff_plan.specs.Bound.{IsWorkers};
+ghost use Rattle.waff_read.specs.Hierarchies.{hierarchy_of};
 ghost use Rattle.waff_io.specs.Writing.{AppendsPart, Tells, WritesOrFails};
 ghost use Rattle.waff_inputs.specs.Inputs.{instance_under};
 ghost use Rattle.waff_inputs.specs.declared.fault.ToolError.TheVariants as tool;
@@ -386,6 +387,7 @@ fn ran_on_files<R: Threads + Wait + Clock + Files + Opens + Eprint + Sync>(
     hierarchy: &[u8],
     trace: &[u8],
 ) -> Result<RanOnFiles, BrokeOff>
+    requires read { hierarchy_of hierarchy.now ≡ Ok accepted.now.layout }
     requires assigned { IsAssignment accepted.now.layout accepted.now.trace.messages accepted.now.assigned }
     ensures told { IfOk result (λ ran. TellRun hierarchy.now
         (instance_under accepted.now.layout accepted.now.assigned accepted.now.trace)
@@ -445,6 +447,7 @@ fn ran_on_store<R: Threads + Wait + Clock + Eprint + Sync>(
 ) -> Result<Recorded, Broken>
     requires workers { IsWorkers settings.now.pace.workers }
     requires tick { 1 ≤ settings.now.pace.tick }
+    requires read { hierarchy_of hierarchy.now ≡ Ok accepted.now.layout }
     requires assigned { IsAssignment accepted.now.layout accepted.now.trace.messages accepted.now.assigned }
     ensures told { IfOk result (λ told. TellRun hierarchy.now
         (instance_under accepted.now.layout accepted.now.assigned accepted.now.trace)

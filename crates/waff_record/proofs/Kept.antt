@@ -1,6 +1,5 @@
 -- What holds of a plan in which the check finds no fault.
-use Rattle.std.proofs.Common.{◌≡◌, ℕ, Bool, true, false, Some, length, inl, inr, arith}
-use Rattle.std.specs.Bool.{OnTrue}
+use Rattle.std.proofs.Common.{◌≡◌, ℕ, Some, length, inl, inr, arith}
 use Rattle.std.proofs.lemmas.Bool.{cases_eq}
 use Rattle.waff_plan.specs.Work.{IsNumber, finish_of}
 use Rattle.waff_check.specs.Faults.{HasWrongFinish}
@@ -26,7 +25,7 @@ module _ (claim : Claim) (k : ℕ) (v : Verdict) (is : IsVerdict claim v) (good 
       free verdict.WithinBound h a = h.free (verdict.Finish n) (omega arith)
       free _ h a = absurd a
 
-  is_kept : Promises claim v → workers_in claim ≡ Some k → length claim.plan.rows ≡ length claim.instance.trace.messages → IsKept claim k
+  pub is_kept : Promises claim v → workers_in claim ≡ Some k → length claim.plan.rows ≡ length claim.instance.trace.messages → IsKept claim k
   is_kept promised workers rows = record {
     verdict = v;
     workers = workers;
@@ -40,9 +39,3 @@ module _ (claim : Claim) (k : ℕ) (v : Verdict) (is : IsVerdict claim v) (good 
     seated = promised.one_at_a_time good k workers;
     apart = promised.apart good;
   }
-
--- where a test says that the verdict tells no fault
-pub kept_where_tested : (claim : Claim) (k : ℕ) (v : Verdict) → IsVerdict claim v → Promises claim v → workers_in claim ≡ Some k
-    → length claim.plan.rows ≡ length claim.instance.trace.messages → (test : Bool) → OnTrue test (promises.Accepts v) → OnTrue test (IsKept claim k)
-kept_where_tested claim k v is promised workers rows true good = is_kept claim k v is good promised workers rows
-kept_where_tested claim k v is promised workers rows false good = tt

@@ -10,6 +10,8 @@ mod Kept
 mod LeftOf
 mod LeftRuns
 mod Measured
+mod Over
+mod Own
 mod Pass
 mod Planned
 mod Placing
@@ -18,6 +20,7 @@ mod Rows
 mod Sooner
 mod Steps
 mod Stopped
+mod Tellable
 mod Telling
 mod Unique
 mod Walking

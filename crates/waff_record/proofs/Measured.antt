@@ -6,13 +6,15 @@ use Rattle.std.proofs.lemmas.List.FromFn.{get_or-map-range_with_len}
 use Rattle.waff_model.specs.Messages.{Arrivals}
 use Rattle.waff_model.specs.declared.message.Message.{Message}
 use Rattle.waff_plan.specs.Clients.{one_before}
-use Rattle.waff_plan.specs.Timetable.{clients_of, floor_of, message_of, no_message, timing_at, timings_of, work_of_messages}
+use Rattle.waff_plan.specs.Timetable.{Timetable, clients_of, floor_of, message_of, no_message, timing_at, timings_of, with_cost, work_of_messages}
 use Rattle.waff_plan.specs.Timing.{awaits_by, await_of, no_timing, timing_of}
+use Rattle.waff_plan.specs.Work.{Await, IsAmongFirst}
 use Rattle.waff_plan.specs.declared.timing.Awaited.TheVariants.{Every}
 use Rattle.waff_plan.specs.declared.timing.Timing.{Timing}
 use Rattle.waff_plan.proofs.TimingLemmas.{length-timings_of}
+use Rattle.waff_record.specs.Ran.{AreTimingsOf}
 use Rattle.waff_record.specs.Rounded.{HasOtherCosts}
-use Rattle.waff_record.specs.Runs.{IsMeasured, IsSameButCost}
+use Rattle.waff_record.specs.Runs.{IsMeasured, IsSameButCost, IsToldTrace}
 
 floor_alike : (message other : Message) → IsSameButCost message other → (follows : ℕ) → floor_of other follows ≡ floor_of message follows
 floor_alike message other same zero = let release = same.release in let think = same.think in omega (arith, release, think)
@@ -65,3 +67,35 @@ module _ (trace measured : Arrivals) (is : IsMeasured trace measured) where
         ∙ ap (floor_of (message_of trace.messages (k + 1))) (follows_alike (k + 1)));
     awaits = alike (awaits_by Every) (λ k within. ap₂ (λ xs ys. xs ++ ys) (ap₂ await_of (follows_alike (k + 1)) (same_at k within).think) (same_at k within).after);
   }
+
+-- the timings that are told of messages are those of the trace that has their costs
+pub timings_told : (trace measured : Arrivals) (plan : Timetable) → AreTimingsOf trace.messages plan.timings → IsToldTrace trace plan measured
+    → plan.timings ≡ timings_of measured.messages
+timings_told trace measured plan are is =
+    let count = is.measured.count in
+    let many = length-timings_of measured.messages in
+    ext_get_or no_timing plan.timings (timings_of measured.messages) (are.count ∙ (sym count ∙ sym many))
+    (λ k within.
+    let short : k < length trace.messages = omega (arith, within, are.count) in
+    let among : IsAmongFirst (length trace.messages) (k + 1) = record { from = omega arith; to = omega (arith, short) } in
+    let same = is.measured.each (k + 1) among in
+    let one : get_or plan.timings k no_timing ≡ with_cost (timing_at trace.messages (k + 1)) (timing_of plan.timings (k + 1)).cost
+    = ap (λ i. get_or plan.timings i no_timing) (place k) ∙ are.each (k + 1) among in
+    let follows = follows_alike trace measured is.measured (k + 1) in
+    let before = one_before (clients_of measured.messages) (k + 1) in
+    let costs = is.costs (k + 1) among in
+    let floors : floor_of (message_of trace.messages (k + 1)) (one_before (clients_of trace.messages) (k + 1)) ≡ floor_of (message_of measured.messages (k + 1)) before
+    = ap (floor_of (message_of trace.messages (k + 1))) (sym follows) ∙ sym (floor_alike (message_of trace.messages (k + 1)) (message_of measured.messages (k + 1)) same before) in
+    let other : get_or (timings_of measured.messages) k no_timing ≡ timing_at measured.messages (k + 1)
+    = get_or-map-range_with_len (timing_at measured.messages) 1 (length measured.messages) k (k + 1) no_timing (omega (arith, short, count)) (omega arith) in
+    one
+    ∙ (fields _ _ _ _ _ _ _ _ _ _ (sym costs) floors (sym follows) (sym same.think) (sym same.after) ∙ sym other))
+  where
+    place : (k : ℕ) → k ≡ k + 1 - 1
+    place k = omega arith
+
+    fields : (cost floor follows think : ℕ) (after : List Await) (cost' floor' follows' think' : ℕ) (after' : List Await) → cost ≡ cost' → floor ≡ floor'
+        → follows ≡ follows' → think ≡ think' → after ≡ after'
+        → ◌≡◌ {A = Timing} (record { cost = cost; floor = floor; follows = follows; think = think; after = after })
+        (record { cost = cost'; floor = floor'; follows = follows'; think = think'; after = after' })
+    fields cost floor follows think after cost' floor' follows' think' after' a b c d e = cc

@@ -1,12 +1,14 @@
 -- A plan in which one message has another start and another cost.
-use Rattle.std.proofs.Common.{◌≡◌, ◌≢◌, ℕ, ◌+◌, ◌-◌, ◌<◌, inl, inr, length, get_or, set, arith, refl, sym, ◌∙◌, ap}
+use Rattle.std.proofs.Common.{◌≡◌, ◌≢◌, ℕ, ◌+◌, ◌-◌, ◌<◌, inl, inr, List, length, get_or, set, arith, refl, sym, ◌∙◌, ap}
 use Rattle.std.proofs.lemmas.Bool.{cases_eq}
 use Rattle.std.proofs.lemmas.List.{get_or-set_other, get_or-set_same, length-set}
-use Rattle.waff_plan.specs.Timetable.{Timetable, starts_in, with_cost, with_turn, work_in}
+use Rattle.waff_model.specs.declared.message.Message.{Message}
+use Rattle.waff_plan.specs.Timetable.{Timetable, starts_in, timing_at, with_cost, with_turn, work_in}
 use Rattle.waff_plan.specs.Timing.{awaits_by, no_timing, timing_of}
 use Rattle.waff_plan.specs.declared.timing.Awaited.TheVariants.{Every}
 use Rattle.waff_plan.specs.Work.{Work, IsAmongFirst, finish_of}
 use Rattle.waff_plan.specs.declared.timing.Timing.{Timing}
+use Rattle.waff_record.specs.Ran.{AreTimingsOf}
 use Rattle.waff_record.specs.Rounded.{HasOtherCosts}
 
 module _ (plan : Timetable) (n start cost : ℕ) where
@@ -46,6 +48,20 @@ module _ (plan : Timetable) (n start cost : ℕ) where
       count = count_stays ∙ has.count;
       floor = λ m. stays (λ (t : Timing). t.floor) (λ t. refl) within_timings m ∙ has.floor m;
       awaits = λ m. stays (awaits_by Every) (λ t. refl) within_timings m ∙ has.awaits m;
+    }
+
+    -- timings are those of messages but for their costs
+    pub timings_stay : (messages : List Message) → AreTimingsOf messages plan.timings → AreTimingsOf messages next.timings
+    timings_stay messages are = record {
+      count = count_stays ∙ are.count;
+      each = λ m among. elim (cases_eq (m - 1) (n - 1)) [
+        | inl here ↦
+            let at = same_timing within_timings m here in
+            at ∙ (ap (λ t. with_cost t cost) (are.each m among) ∙ ap (λ (t : Timing). with_cost (timing_at messages m) t.cost) (sym at))
+        | inr there ↦
+            let at = other_timing m there in
+            at ∙ (are.each m among ∙ ap (λ (t : Timing). with_cost (timing_at messages m) t.cost) (sym at))
+      ];
     }
 
     -- another message starts and finishes as it did

@@ -1,10 +1,12 @@
 -- One message of a run after another is told, in the order in which they began.
-use Rattle.std.proofs.Common.{◌≡◌, ℕ, ◌+◌, ◌-◌, ◌/◌, ◌<◌, ◌≤◌, max, List, length, map, Contains, Option, arith, refl, sym, ◌∙◌, ap, subst}
+use Rattle.std.proofs.Common.{◌≡◌, ℕ, ◌+◌, ◌-◌, ◌/◌, ◌<◌, ◌≤◌, inl, inr, max, List, length, map, Contains, Option, arith, refl, sym, ◌∙◌, ap, subst}
+use Rattle.std.proofs.lemmas.Bool.{cases_eq}
 use Rattle.std.proofs.Math.ListN.{get_or-map}
 use Rattle.waff_plan.specs.ByStart.{AreByStart, started_at}
 use Rattle.waff_plan.specs.Obeys.{AwaitsEarlier}
 use Rattle.waff_plan.specs.Table.{IsLatestExcluding}
-use Rattle.waff_plan.specs.Timetable.{Timetable, starts_in, timings_of, with_turn, work_in}
+use Rattle.waff_model.specs.declared.message.Message.{Message}
+use Rattle.waff_plan.specs.Timetable.{Timetable, starts_in, timing_at, timings_of, with_cost, with_turn, work_in}
 use Rattle.waff_plan.specs.Timing.{start_of, work_of}
 use Rattle.waff_plan.specs.Work.{IsAmongFirst, finish_of, issue_of}
 use Rattle.waff_plan.specs.declared.latest.Latest.{Latest}
@@ -12,19 +14,20 @@ use Rattle.waff_plan.specs.declared.sequence.Started.{Started}
 use Rattle.waff_plan.specs.declared.timing.Timing.{Timing}
 use Rattle.waff_plan.proofs.ApartLaws.{number_here}
 use Rattle.waff_plan.proofs.Noted.{AreNoted}
-use Rattle.waff_plan.proofs.TimingLemmas.{length-timings_of}
+use Rattle.waff_plan.proofs.TimingLemmas.{length-timings_of, timing_is}
 use Rattle.waff_line.specs.declared.turn.Turn.{Turn}
 use Rattle.waff_record.specs.Begun.{AreBegun}
 use Rattle.waff_record.specs.Laws.{IsRunCourse}
-use Rattle.waff_record.specs.Ran.{HasRun, IsToldOf, course_run, ticks_run}
+use Rattle.waff_record.specs.Ran.{AreTimingsOf, HasRun, IsTimely, IsToldOf, course_run, ticks_run}
 use Rattle.waff_record.specs.Rounded.{HasOtherCosts, IsTold}
 use Rattle.waff_record.specs.Turns.{no_turn, turn_at}
+use Rattle.waff_record.specs.declared.rounding.TheConstants.{MAX_RUN}
 use Rattle.waff_record.specs.declared.turns.RunTurns.{RunTurns}
 use Rattle.waff_record.proofs.Counted.{turns_of_all}
 use Rattle.waff_record.proofs.Pass.{IsFreeFrom, StartsFrom}
-use Rattle.waff_record.proofs.Placing.{count_stays, starts_stay}
+use Rattle.waff_record.proofs.Placing.{count_stays, starts_stay, timings_stay}
 use Rattle.waff_record.proofs.Ran.{ran_there}
-use Rattle.waff_record.proofs.Walking.{all_told, here_finishes, noted_stay, other_costs, told_more}
+use Rattle.waff_record.proofs.Walking.{all_told, here_finishes, noted_stay, number_at, other_costs, place_of, told_more}
 
 -- the start of message n in a list of the starts of turns
 abbrev begins : List Turn → ℕ → ℕ
@@ -77,6 +80,9 @@ module _ (run : RunTurns) (ran : HasRun run) (began : List Started) (begun : Are
     AreTold plan place =
         (p : ℕ) → p < place → IsTold (course_run run) run.tick run.turns.now (work_in plan) (starts_in plan) (started_at began p).number
 
+    abbrev ArePunctual : Timetable → ℕ → Type 0
+    ArePunctual plan place = (p : ℕ) → p < place → finish_of (work_in plan) (starts_in plan) (started_at began p).number ≤ MAX_RUN
+
     module _ (plan new : Timetable) (place m start cost : ℕ) (noted : List ℕ) (less : place < messages) (here : m ≡ (started_at began place).number)
         (are_noted : AreNoted began (λ i. Unit {0}) place noted) (costs : HasOtherCosts (ticks_run run) (work_in plan)) (long : length plan.starts ≡ length plan.timings)
         (told : AreTold plan place) (new_is : new ≡ with_turn plan m start cost) where
@@ -114,6 +120,26 @@ module _ (run : RunTurns) (ran : HasRun run) (began : List Started) (begun : Are
           (here_finishes (course_run run) (ticks_run run) run.tick run.turns.now is_run ran began (begins run.turns.now) (begins_is run.turns.now) in_order place within noted are_noted
           plan costs long count told start cost))
 
+      -- timings stay those of the messages but for their costs
+      pub new_timings : AreTimingsOf run.case.trace.now.messages plan.timings → AreTimingsOf run.case.trace.now.messages new.timings
+      new_timings are =
+          let at = number_at (course_run run) (ticks_run run) run.tick run.turns.now is_run ran began (begins run.turns.now) (begins_is run.turns.now) in_order place within in
+          subst (λ (p : Timetable). AreTimingsOf run.case.trace.now.messages p.timings) (sym next_is)
+          (timings_stay plan (started_at began place).number start cost (record { from = at.from; to = omega (arith, at.to, count) }) run.case.trace.now.messages are)
+
+      -- and none that was told finishes too late
+      pub new_timely : ArePunctual plan place → start + cost ≤ MAX_RUN → ArePunctual new (place + 1)
+      new_timely are early p before = elim (cases_eq p place) [
+        | inl at ↦
+            let same : finish_of (work_in new) (starts_in new) (started_at began p).number ≡ start + cost
+            = ap (λ k. finish_of (work_in new) (starts_in new) (started_at began k).number) at
+            ∙ ap (finish_of (work_in new) (starts_in new)) (sym here) ∙ new_finish in
+            omega (arith, same, early)
+        | inr off ↦
+            let sooner : p < place = omega (arith, before, off) in
+            omega (arith, are p sooner, new_stay (started_at began p).number (are_noted.all p sooner tt))
+      ]
+
       pub new_told : (turn : Turn) → turn ≡ turn_at run.turns.now m → (latest : Option Latest)
           → IsLatestExcluding run.case.tree.now run.case.assigned.now (finish_of (work_in plan) (starts_in plan)) noted m latest
           → (free : ℕ) → IsFreeFrom run.turns.now (finish_of (work_in plan) (starts_in plan)) noted (turn_at run.turns.now m).worker free
@@ -142,6 +168,23 @@ module _ (run : RunTurns) (ran : HasRun run) (began : List Started) (begun : Are
     told_all plan place all costs told =
         all_told (course_run run) (ticks_run run) run.tick run.turns.now is_run ran began (begins run.turns.now) (begins_is run.turns.now) in_order (work_in plan) (starts_in plan)
         place (omega (arith, all, began_counted)) costs costs.count told
+
+    pub all_timely : (plan : Timetable) (place : ℕ) → messages ≤ place → HasOtherCosts (ticks_run run) (work_in plan) → ArePunctual plan place → IsTimely plan
+    all_timely plan place all costs are n number =
+        let there = place_of (course_run run) (ticks_run run) run.tick run.turns.now is_run ran began (begins run.turns.now) (begins_is run.turns.now) in_order n
+        (record { from = number.from; to = omega (arith, number.to, costs.count) }) in
+        subst (λ k. finish_of (work_in plan) (starts_in plan) k ≤ MAX_RUN) there.2 (are there.0 (omega (arith, there.1, all, began_counted)))
+
+-- the timings of messages are theirs
+pub timings_first : (messages : List Message) (timings : List Timing) → timings ≡ timings_of messages → AreTimingsOf messages timings
+timings_first messages timings is =
+    subst (AreTimingsOf messages) (sym is)
+    (record {
+      count = length-timings_of messages;
+      each = λ n among.
+          let at = timing_is messages n among in
+          at ∙ ap (λ (t : Timing). with_cost (timing_at messages n) t.cost) (sym at);
+    })
 
 -- the work of other timings that are the same
 pub costs_first : (run : RunTurns) (plan : Timetable) → plan.timings ≡ timings_of run.case.trace.now.messages → HasOtherCosts (ticks_run run) (work_in plan)

@@ -32,7 +32,7 @@ module _ (course : Course) (ticks : Work) (tick : ℕ) (turns : List Turn) (is :
   nobody = record { start = 0; number = 0 }
 
   -- the place of a message
-  place_of : (m : ℕ) → IsAmongFirst course.work.count m → (p : ℕ) × (p < length began) × (at_place p ≡ m)
+  pub place_of : (m : ℕ) → IsAmongFirst course.work.count m → (p : ℕ) × (p < length began) × (at_place p ≡ m)
   place_of m number =
       let there = are.each m number in
       (there.0, there.1, ap (λ (x : Started). x.number) (get_or_default began there.0 nobody (started_of key m) there.1 ∙ there.2))

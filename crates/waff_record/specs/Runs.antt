@@ -6,15 +6,15 @@ use Rattle.waff_model.specs.declared.message.Message.{Message}
 use Rattle.waff_assign.specs.Instance.{Instance}
 use Rattle.waff_plan.specs.Apart.{AreApart}
 use Rattle.waff_plan.specs.Obeys.{KeepsOrder, StartsIssued}
-use Rattle.waff_plan.specs.Timetable.{Timetable, message_of, starts_in, work_in, work_of_messages}
-use Rattle.waff_plan.specs.Timing.{start_of}
+use Rattle.waff_plan.specs.Timetable.{Timetable, message_of, work_of_messages}
+use Rattle.waff_plan.specs.Timing.{timing_of}
 use Rattle.waff_plan.specs.Work.{IsNumber, finish_of, length_of}
 use Rattle.waff_plan.specs.Workers.{running}
 use Rattle.waff_plan_text.specs.Given.{Given}
 use Rattle.waff_plan_text.specs.PlanTexts.{plan_of}
 use Rattle.waff_check.specs.Promises as promises
 use Rattle.waff_check.specs.Promises.{AreOneAtATime, Promises}
-use Rattle.waff_check.specs.Verdicts.{Claim, IsVerdict, claim_of, pairs_of_claim, start_in, starts_of}
+use Rattle.waff_check.specs.Verdicts.{Claim, IsVerdict, claim_of, pairs_of_claim, start_in}
 use Rattle.waff_check.specs.Verdicts.{told_finish, work_of_claim, worker_in, workers_in}
 use Rattle.waff_check.specs.declared.verdict.Verdict.{Verdict}
 use Rattle.waff_line.specs.Turns.{course_by}
@@ -41,6 +41,12 @@ pub record IsMeasured (trace measured : Arrivals) : Type 0 where
   pub each : (n : ℕ) → IsAmongFirst (length trace.messages) n
       → IsSameButCost (message_of trace.messages n) (message_of measured.messages n)
 
+-- and these are the costs of a plan
+pub record IsToldTrace (trace : Arrivals) (plan : Timetable) (other : Arrivals) : Type 0 where
+  pub measured : IsMeasured trace other
+  pub costs : (n : ℕ) → IsAmongFirst (length trace.messages) n
+      → (message_of other.messages n).cost ≡ (timing_of plan.timings n).cost
+
 -- a plan that is given for the messages of a trace is one for k workers in which the check finds no fault; and
 -- what holds of it:
 -- - each message runs once: it has a row of its own, whose finish is its start and its cost;
@@ -63,16 +69,6 @@ pub record IsKept (claim : Claim) (k : ℕ) : Type 0 where
 -- how long a plan that is given is
 abbrev pub length_in : Claim → ℕ
 length_in claim = length_of (work_of_claim claim) (start_in claim)
-
--- of message n a plan that is given tells what another one has, and the worker of its turn
-pub record TellsRow (given : Given) (plan : Timetable) (turns : List Turn) (n : ℕ) : Type 0 where
-  pub start : start_of (starts_of given) n ≡ starts_in plan n
-  pub finish : told_finish given n ≡ finish_of (work_in plan) (starts_in plan) n
-  pub worker : worker_in given n ≡ worker_of turns n
-
--- and so of each of so many messages
-abbrev pub TellsRows : Given → Timetable → List Turn → ℕ → Type 0
-TellsRows given plan turns count = (n : ℕ) → IsAmongFirst count n → TellsRow given plan turns n
 
 -- a plan that is given is what is told of the turns of a run of an instance by k workers, in ticks of so many nanoseconds:
 -- - its starts and costs are the rounding of the turns, of each message its own;

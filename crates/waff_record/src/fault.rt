@@ -8,7 +8,7 @@ pub enum RecordError {
     Memory,
     /// This message would be told to finish too late, or to run for too many ticks.
     Tick(u32),
-    /// The turns are none of a run of this trace that obeys.
+    /// The trace with the costs that are told, or what is left of the trace, is not read back as it was written.
     Refused,
 }
 

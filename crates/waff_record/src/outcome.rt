@@ -1,15 +1,13 @@
 //! What is told of a run, made of the turns of its messages.
 
-ghost use Rattle.std.specs.Prelude.{◌≡◌, ◌*◌, IfOk, OnOk, string_bytes};
+ghost use Rattle.std.specs.Prelude.{◌≡◌, IfOk, OnOk, string_bytes};
 ghost use Rattle.waff_assign.specs.Case.{instance_of};
-ghost use Rattle.waff_inputs.specs.Inputs.{instance_under};
-ghost use Rattle.waff_plan.specs.Timetable.{starts_in, work_in};
-ghost use Rattle.waff_plan.specs.Work.{length_of};
-ghost use Rattle.waff_record.specs.Drift.{drift_of, last_finish, short_turns};
-ghost use Rattle.waff_record.specs.Ran.{HasRun, IsToldRun};
+ghost use Rattle.waff_assign.specs.Lowest.{IsAssignment};
+ghost use Rattle.waff_record.specs.Drift.{short_turns};
+ghost use Rattle.waff_record.specs.Ran.{HasRun, IsToldRun, drift_told, instance_with};
 ghost use Rattle.waff_record.specs.Runs.{AreRunTexts, IsMeasured, IsPlanFor};
 
-use crate::checked::{accept_measured, try_texts};
+use crate::checked::{is_measured, refused};
 use crate::drift::{drift_of, last_finish, short_turns};
 use crate::fault::RecordError;
 use crate::rounding::rounded;
@@ -18,8 +16,9 @@ use crate::told_run::ToldRun;
 use crate::turns::RunTurns;
 use std::alloc::{AllocError, Global};
 use std::thread::Threads;
-use waff_inputs::Accepted;
+use waff_inputs::read_trace_by_threads;
 use waff_line::Turn;
+use waff_model::Trace;
 
 /// What a run tells.
 #[derive(Drop)]
@@ -44,16 +43,17 @@ pub struct Tally {
     pub short: usize,
 }
 
-/// What is told of a run of the messages of these files, in ticks.
+/// What is told of a run of the messages of the trace that these bytes are, in ticks.
 pub fn record_of<R: Threads + Sync>(
     rt: &R,
     alloc: Global,
     run: &RunTurns<'_>,
-    hierarchy: &[u8],
     bytes: &[u8],
 ) -> Result<Recorded, RecordError>
     requires ran { HasRun run.now }
-    ensures texts { IfOk result (λ ran. AreRunTexts hierarchy.now (instance_of run.now.case)
+    requires assigned { IsAssignment run.now.layout.now run.now.case.trace.now.messages
+        run.now.case.assigned.now }
+    ensures texts { IfOk result (λ ran. AreRunTexts run.now.hierarchy.now (instance_of run.now.case)
         run.now.workers run.now.tick run.now.turns.now
         (string_bytes ran.measured) (string_bytes ran.text) ran.drift) }
     ensures short { IfOk result
@@ -64,7 +64,7 @@ pub fn record_of<R: Threads + Sync>(
         run: *run,
         plan: &plan,
     };
-    let recorded = record_told(rt, alloc, &told, hierarchy, bytes);
+    let recorded = record_told(rt, alloc, &told, bytes);
     drop(plan);
     recorded
 }
@@ -74,13 +74,14 @@ fn record_told<R: Threads + Sync>(
     rt: &R,
     alloc: Global,
     told: &ToldRun<'_>,
-    hierarchy: &[u8],
     bytes: &[u8],
 ) -> Result<Recorded, RecordError>
     requires told { IsToldRun told.now }
-    ensures texts { IfOk result (λ ran. AreRunTexts hierarchy.now (instance_of told.now.run.case)
-        told.now.run.workers told.now.run.tick told.now.run.turns.now
-        (string_bytes ran.measured) (string_bytes ran.text) ran.drift) }
+    requires assigned { IsAssignment told.now.run.layout.now told.now.run.case.trace.now.messages
+        told.now.run.case.assigned.now }
+    ensures texts { IfOk result (λ ran. AreRunTexts told.now.run.hierarchy.now
+        (instance_of told.now.run.case) told.now.run.workers told.now.run.tick
+        told.now.run.turns.now (string_bytes ran.measured) (string_bytes ran.text) ran.drift) }
     ensures short { IfOk result
         (λ ran. ran.tally.short ≡ short_turns told.now.run.tick told.now.run.turns.now) }
 {
@@ -91,7 +92,7 @@ fn record_told<R: Threads + Sync>(
         last_finish(told.run.turns),
     );
     let measured = measured_text(alloc, bytes, told.plan)?.ok_or(RecordError::Refused)?;
-    match text_for(rt, alloc, told, hierarchy, measured.as_bytes(), drift) {
+    match text_for(rt, alloc, told, measured.as_bytes()) {
         Ok(text) => Ok(Recorded {
             measured,
             text,
@@ -110,49 +111,37 @@ fn text_for<R: Threads + Sync>(
     rt: &R,
     alloc: Global,
     told: &ToldRun<'_>,
-    hierarchy: &[u8],
     measured: &[u8],
-    drift: Option<u128>,
 ) -> Result<String, RecordError>
     requires told { IsToldRun told.now }
-    requires drift { drift ≡ drift_of
-        (length_of (work_in told.now.plan.now) (starts_in told.now.plan.now) * told.now.run.tick)
-        (last_finish told.now.run.turns.now) }
-    ensures { IfOk result (λ text. AreRunTexts hierarchy.now (instance_of told.now.run.case)
-        told.now.run.workers told.now.run.tick told.now.run.turns.now
-        measured.now (string_bytes text) drift) }
+    requires assigned { IsAssignment told.now.run.layout.now told.now.run.case.trace.now.messages
+        told.now.run.case.assigned.now }
+    ensures { IfOk result (λ text. AreRunTexts told.now.run.hierarchy.now
+        (instance_of told.now.run.case) told.now.run.workers told.now.run.tick
+        told.now.run.turns.now measured.now (string_bytes text) (drift_told told.now)) }
 {
-    let accepted = accept_measured(rt, alloc, hierarchy, measured)?;
-    let text = tried_text(rt, alloc, told, &accepted, drift);
-    drop(accepted);
-    text
+    match read_trace_by_threads(rt, alloc, told.run.layout, measured) {
+        Ok(trace) => {
+            let text = text_over(alloc, told, &trace);
+            drop(trace);
+            text
+        }
+        Err(fault) => Err(refused(fault)),
+    }
 }
 
-/// The text of the plan that is told, for the trace that was accepted.
-fn tried_text<R: Threads + Sync>(
-    rt: &R,
-    alloc: Global,
-    told: &ToldRun<'_>,
-    accepted: &Accepted,
-    drift: Option<u128>,
-) -> Result<String, RecordError>
+/// The text of the plan that is told, for a trace, where that has the costs that are told.
+fn text_over(alloc: Global, told: &ToldRun<'_>, trace: &Trace) -> Result<String, RecordError>
     requires told { IsToldRun told.now }
-    requires drift { drift ≡ drift_of
-        (length_of (work_in told.now.plan.now) (starts_in told.now.plan.now) * told.now.run.tick)
-        (last_finish told.now.run.turns.now) }
-    ensures measured { OnOk result (IsMeasured told.now.run.case.trace.now accepted.now.trace) }
+    ensures measured { OnOk result (IsMeasured told.now.run.case.trace.now trace.now) }
     ensures plan { IfOk result (λ text. IsPlanFor (instance_of told.now.run.case)
-        (instance_under accepted.now.layout accepted.now.assigned accepted.now.trace)
-        told.now.run.workers told.now.run.tick told.now.run.turns.now (string_bytes text) drift) }
+        (instance_with told.now.run.case trace.now) told.now.run.workers told.now.run.tick
+        told.now.run.turns.now (string_bytes text) (drift_told told.now)) }
 {
-    let text = plan_text(alloc, told, &accepted.case())?.ok_or(RecordError::Refused)?;
-    match try_texts(rt, alloc, told, accepted, text.as_bytes(), drift) {
-        Ok(()) => Ok(text),
-        Err(error) => {
-            drop(text);
-            Err(error)
-        }
+    if !is_measured(told.run.case.trace, told.plan, trace) {
+        return Err(RecordError::Refused);
     }
+    Ok(plan_text(alloc, told, trace)?)
 }
 
 /// How long the run was, how late its messages began, and how many were shorter than a tick.

@@ -20,7 +20,7 @@ use crate::turns::RunTurns;
 use std::alloc::{AllocError, Global};
 use std::thread::Threads;
 use waff_assign::{Case, assign_by_threads};
-use waff_inputs::{ToolError, read_trace_by_threads};
+use waff_inputs::read_trace_by_threads;
 use waff_line::{Turn, laws};
 use waff_model::Trace;
 use waff_plan::Plan;
@@ -30,7 +30,6 @@ pub fn record_left<R: Threads + Sync>(
     rt: &R,
     alloc: Global,
     run: &StoppedRun<'_>,
-    hierarchy: &[u8],
     bytes: &[u8],
 ) -> Result<Recorded, RecordError>
     requires assigned { IsAssignment run.now.whole.now.layout
@@ -38,16 +37,14 @@ pub fn record_left<R: Threads + Sync>(
     requires reached { AreReached (course_by
         (instance_under run.now.whole.now.layout run.now.whole.now.assigned run.now.whole.now.trace)
         run.now.workers run.now.tick) run.now.turns.now }
-    ensures { IfOk result (λ told. TellLeft hierarchy.now
+    ensures { IfOk result (λ told. TellLeft run.now.hierarchy.now
         (instance_under run.now.whole.now.layout run.now.whole.now.assigned run.now.whole.now.trace)
         run.now.workers run.now.tick run.now.turns.now
         (string_bytes told.measured) (string_bytes told.text) told.drift) }
 {
-    if run.turns.len() != run.whole.trace.len() as usize {
-        return Err(RecordError::Refused);
-    }
+    let _messages = run.whole.trace.len();
     let kept = numbers_left(alloc, run.turns, run.tick)?;
-    let told = record_kept(rt, alloc, run, kept.as_slice(), hierarchy, bytes);
+    let told = record_kept(rt, alloc, run, kept.as_slice(), bytes);
     drop(kept);
     told
 }
@@ -58,7 +55,6 @@ fn record_kept<R: Threads + Sync>(
     alloc: Global,
     run: &StoppedRun<'_>,
     kept: &[u32],
-    hierarchy: &[u8],
     bytes: &[u8],
 ) -> Result<Recorded, RecordError>
     requires assigned { IsAssignment run.now.whole.now.layout
@@ -67,7 +63,7 @@ fn record_kept<R: Threads + Sync>(
         (instance_under run.now.whole.now.layout run.now.whole.now.assigned run.now.whole.now.trace)
         run.now.workers run.now.tick) run.now.turns.now }
     requires left { AreLeft run.now.turns.now run.now.tick kept.now }
-    ensures { IfOk result (λ told. TellLeft hierarchy.now
+    ensures { IfOk result (λ told. TellLeft run.now.hierarchy.now
         (instance_under run.now.whole.now.layout run.now.whole.now.assigned run.now.whole.now.trace)
         run.now.workers run.now.tick run.now.turns.now
         (string_bytes told.measured) (string_bytes told.text) told.drift) }
@@ -76,20 +72,11 @@ fn record_kept<R: Threads + Sync>(
     let text = cut_text(alloc, bytes, &plan, kept)?.ok_or(RecordError::Refused)?;
     let told = match read_trace_by_threads(rt, alloc, &run.whole.layout, text.as_bytes()) {
         Ok(cut) => {
-            let told = record_cut(
-                rt,
-                alloc,
-                run,
-                kept,
-                &plan,
-                &cut,
-                hierarchy,
-                text.as_bytes(),
-            );
+            let told = record_cut(rt, alloc, run, kept, &plan, &cut, text.as_bytes());
             drop(cut);
             told
         }
-        Err(fault) => Err(refused(ToolError::from(fault))),
+        Err(fault) => Err(refused(fault)),
     };
     drop(text);
     drop(plan);
@@ -104,7 +91,6 @@ fn record_cut<R: Threads + Sync>(
     kept: &[u32],
     plan: &Plan,
     cut: &Trace,
-    hierarchy: &[u8],
     bytes: &[u8],
 ) -> Result<Recorded, RecordError>
     requires assigned { IsAssignment run.now.whole.now.layout
@@ -115,7 +101,7 @@ fn record_cut<R: Threads + Sync>(
     requires left { AreLeft run.now.turns.now run.now.tick kept.now }
     requires timings { plan.now.timings ≡ timings_of run.now.whole.now.trace.messages }
     requires fits { cut.now.sizes ≡ sizes_of run.now.whole.now.layout.spaces }
-    ensures { IfOk result (λ told. TellLeft hierarchy.now
+    ensures { IfOk result (λ told. TellLeft run.now.hierarchy.now
         (instance_under run.now.whole.now.layout run.now.whole.now.assigned run.now.whole.now.trace)
         run.now.workers run.now.tick run.now.turns.now
         (string_bytes told.measured) (string_bytes told.text) told.drift) }
@@ -130,16 +116,7 @@ fn record_cut<R: Threads + Sync>(
         assigned: &assigned,
         trace: cut,
     };
-    let told = record_case(
-        rt,
-        alloc,
-        run,
-        kept,
-        case,
-        turns.as_slice(),
-        hierarchy,
-        bytes,
-    );
+    let told = record_case(rt, alloc, run, kept, case, turns.as_slice(), bytes);
     drop(turns);
     drop(assigned);
     told
@@ -170,7 +147,6 @@ fn record_case<R: Threads + Sync>(
     kept: &[u32],
     case: Case<'_>,
     turns: &[Turn],
-    hierarchy: &[u8],
     bytes: &[u8],
 ) -> Result<Recorded, RecordError>
     requires assigned { IsAssignment run.now.whole.now.layout
@@ -183,7 +159,7 @@ fn record_case<R: Threads + Sync>(
     requires tree { case.tree.now ≡ run.now.whole.now.layout.tree }
     requires assignment { IsAssignment run.now.whole.now.layout case.trace.now.messages case.assigned.now }
     requires turns { turns.now ≡ turns_kept run.now.turns.now kept.now }
-    ensures { IfOk result (λ told. TellLeft hierarchy.now
+    ensures { IfOk result (λ told. TellLeft run.now.hierarchy.now
         (instance_under run.now.whole.now.layout run.now.whole.now.assigned run.now.whole.now.trace)
         run.now.workers run.now.tick run.now.turns.now
         (string_bytes told.measured) (string_bytes told.text) told.drift) }
@@ -195,10 +171,12 @@ fn record_case<R: Threads + Sync>(
     let _messages = case.trace.len();
     let _affinities = case.tree.len();
     let left = RunTurns {
+        hierarchy: run.hierarchy,
+        layout: &run.whole.layout,
         case,
         turns,
         workers: run.workers,
         tick: run.tick,
     };
-    record_of(rt, alloc, &left, hierarchy, bytes)
+    record_of(rt, alloc, &left, bytes)
 }

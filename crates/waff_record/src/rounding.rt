@@ -6,7 +6,7 @@ ghost use Rattle.waff_model.specs.Numbers.{IsAmongFirst};
 ghost use Rattle.waff_model.specs.declared.limits.TheConstants.{MAX_COST, MAX_MESSAGES};
 ghost use Rattle.waff_plan.specs.ByStart.{started_at};
 ghost use Rattle.waff_record.specs.Begun.{IsBegun};
-ghost use Rattle.waff_record.specs.Ran.{HasRun, IsToldOf};
+ghost use Rattle.waff_record.specs.Ran.{AreTimingsOf, HasRun, IsTimely, IsToldOf};
 ghost use Rattle.waff_record.specs.Turns.{turn_at};
 ghost use Rattle.waff_record.specs.declared.rounding.TheConstants.{MAX_RUN};
 
@@ -35,6 +35,8 @@ pub fn rounded(alloc: Global, run: &RunTurns<'_>) -> Result<Plan, RecordError>
     requires ran { HasRun run.now }
     ensures version { IfOk result (λ plan. plan.version ≡ run.now.case.trace.now.version) }
     ensures told { IfOk result (IsToldOf run.now) }
+    ensures timings { IfOk result (λ plan. AreTimingsOf run.now.case.trace.now.messages plan.timings) }
+    ensures timely { IfOk result IsTimely }
 {
     let mut plan = Plan::unstarted(alloc, run.case.trace)?;
     let count = plan.len();

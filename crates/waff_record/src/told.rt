@@ -1,18 +1,20 @@
 //! What is told of a run: the trace with the measured costs, and the plan.
 
-ghost use Rattle.std.specs.Bool.{OnTrue};
-ghost use Rattle.std.specs.Prelude.{◌≤◌, All, length};
-ghost use Rattle.waff_plan.specs.Bound.{IsWorkers};
-ghost use Rattle.waff_plan.specs.Chain.{IsListed};
-ghost use Rattle.waff_record.specs.Ran.{IsToldRun};
+ghost use Rattle.std.specs.Prelude.{◌≡◌, ◌≤◌, IfOk, length, map, string_bytes};
+ghost use Rattle.waff_assign.specs.Case.{instance_of};
+ghost use Rattle.waff_plan.specs.Chain.{IsChain, IsListed};
+ghost use Rattle.waff_plan.specs.Serving.{started_in};
+ghost use Rattle.waff_plan.specs.Timetable.{work_in};
+ghost use Rattle.waff_record.specs.Ran.{IsToldRun, drift_told, instance_with};
+ghost use Rattle.waff_record.specs.Runs.{IsPlanFor, IsToldTrace};
 
 use crate::told_run::ToldRun;
 use csv::StringRecord;
 use std::alloc::{AllocError, Global};
 use std::fmt::Write;
 use waff_assign::Case;
-use waff_model::Await;
-use waff_model::limits::MAX_TICK;
+use waff_line::Turn;
+use waff_model::{Await, Trace};
 use waff_parse::{next_text, text_rows};
 use waff_plan::printed::started_chain;
 use waff_plan::{Plan, Planned};
@@ -21,7 +23,7 @@ use waff_plan_text::worker_text;
 /// The trace of these bytes with the costs of this plan of its messages in place of its own. Lists of messages that are
 /// awaited are spelled again, without gaps of 0; all other fields are as they stand, so that ranges stay ranges. None
 /// where the bytes are no trace of as many messages.
-pub fn measured_text(
+pub(crate) fn measured_text(
     alloc: Global,
     trace: &[u8],
     plan: &Plan,
@@ -164,87 +166,57 @@ fn push_list(text: &mut String, list: &[Await]) -> Result<(), AllocError> {
     Ok(())
 }
 
-/// The text of the plan that is told of a run, with its printed chain, for a case that has the costs that are told. None
-/// where it has another number of messages, or the plan cannot be printed.
-pub fn plan_text(
+/// The text of the plan that is told of a run, with its printed chain, for the trace that has the costs that are told.
+pub(crate) fn plan_text(
     alloc: Global,
     told: &ToldRun<'_>,
-    case: &Case<'_>,
-) -> Result<Option<String>, AllocError>
+    measured: &Trace,
+) -> Result<String, AllocError>
     requires told { IsToldRun told.now }
+    requires trace { IsToldTrace told.now.run.case.trace.now told.now.plan.now measured.now }
+    ensures { IfOk result (λ text. IsPlanFor (instance_of told.now.run.case)
+        (instance_with told.now.run.case measured.now) told.now.run.workers told.now.run.tick
+        told.now.run.turns.now (string_bytes text) (drift_told told.now)) }
 {
-    let run = &told.run;
-    let chain = chain_of(alloc, told)?;
-    let starts = starts_of(alloc, told.plan)?;
-    let seats: Vec<u32> = run.turns.iter().map(|turn| turn.worker).collect(alloc)?;
-    planned_text(
-        alloc,
+    let _planned = told.plan.len();
+    let _messages = measured.len();
+    let _affinities = told.run.case.tree.len();
+    let case = Case {
+        tree: told.run.case.tree,
+        assigned: told.run.case.assigned,
+        trace: measured,
+    };
+    let planned = Planned {
         case,
-        starts.as_slice(),
+        plan: told.plan,
+    };
+    let chain = chain_of(alloc, told)?;
+    let seats = seats_of(alloc, told.run.turns)?;
+    worker_text(
+        alloc,
+        &planned,
+        told.run.workers,
         seats.as_slice(),
         chain.as_slice(),
-        run.workers,
     )
 }
 
 /// The printed chain of the plan that is told.
 fn chain_of(alloc: Global, told: &ToldRun<'_>) -> Result<Vec<u32>, AllocError>
     requires told { IsToldRun told.now }
+    ensures chain { IfOk result (λ chain. IsChain
+        (started_in told.now.run.case.tree.now told.now.run.case.assigned.now told.now.plan.now)
+        (work_in told.now.plan.now) chain.items) }
+    ensures listed { IfOk result (λ chain. IsListed (length told.now.plan.now.timings) chain.items) }
 {
     let _messages = told.plan.len();
     let case = &told.run.case;
     started_chain(alloc, case.tree, case.assigned, told.plan)
 }
 
-/// The starts of a plan's messages.
-fn starts_of(alloc: Global, plan: &Plan) -> Result<Vec<u64>, AllocError> {
-    let mut starts = Vec::with_capacity(alloc, plan.len() as usize)?;
-    for m in 1..plan.len() + 1 {
-        let start = plan.start(m);
-        starts.push(start)?;
-    }
-    Ok(starts)
-}
-
-/// The text of the plan of these starts and workers of messages, with this chain. None where they are not as many as
-/// the messages of the case, or cannot be printed.
-fn planned_text(
-    alloc: Global,
-    case: &Case<'_>,
-    starts: &[u64],
-    seats: &[u32],
-    chain: &[u32],
-    workers: u32,
-) -> Result<Option<String>, AllocError>
-    requires workers { IsWorkers workers }
+/// The workers of turns.
+fn seats_of(alloc: Global, turns: &[Turn]) -> Result<Vec<u32>, AllocError>
+    ensures { IfOk result (λ seats. seats.items ≡ map (λ turn. turn.worker) turns.now) }
 {
-    let count = case.trace.len();
-    if starts.len() != count as usize || seats.len() != count as usize {
-        return Ok(None);
-    }
-    if !are_printable(starts) || !is_listed(chain, count) {
-        return Ok(None);
-    }
-    let plan = Plan::of_starts(alloc, case.trace, starts)?;
-    let planned = Planned {
-        case: *case,
-        plan: &plan,
-    };
-    let text = worker_text(alloc, &planned, workers, seats, chain);
-    drop(plan);
-    Ok(Some(text?))
-}
-
-/// Whether each start can be printed.
-fn are_printable(starts: &[u64]) -> bool
-    ensures { OnTrue result (All (λ start. start ≤ MAX_TICK) starts.now) }
-{
-    starts.iter().all(|start| *start <= MAX_TICK)
-}
-
-/// Whether a chain lists messages of so many, and no more than there are.
-fn is_listed(chain: &[u32], count: u32) -> bool
-    ensures { OnTrue result (IsListed count chain.now) }
-{
-    chain.len() <= count as usize && chain.iter().all(|m| *m >= 1 && *m <= count)
+    turns.iter().map(|turn| turn.worker).collect(alloc)
 }

@@ -18,7 +18,7 @@ pub enum Stopped {
     File(usize),
     /// Only so many workers could be started, the first of them counted.
     Threads(u32),
-    /// The line would have gone on out of turn, or the check did not accept what was run.
+    /// The line would have gone on out of turn, or the trace with the costs that are told was not read back as it was written.
     Line,
 }
 
@@ -62,7 +62,7 @@ pub enum RunError {
     File(String),
     /// Only so many workers could be started, the first of them counted, and nothing was run.
     Threads(u32),
-    /// The check did not accept what was run, or the line would have gone on out of turn.
+    /// The trace with the costs that are told was not read back as it was written, or the line would have gone on out of turn.
     Run,
 }
 

@@ -1,10 +1,11 @@
 //! A run, from the accepted files to the two texts.
 
-ghost use Rattle.std.specs.Prelude.{◌≡◌, ◌≤◌, IfErr, IfOk, IfSome, None, OnOk, true, length, map, option_map, string_bytes};
+ghost use Rattle.std.specs.Prelude.{◌≡◌, ◌≤◌, IfErr, IfOk, IfSome, None, Ok, OnOk, true, length, map, option_map, string_bytes};
 ghost use Rattle.waff_assign.specs.Lowest.{IsAssignment};
 ghost use Rattle.waff_inputs.specs.Inputs.{instance_under};
 ghost use Rattle.waff_line.specs.Turns.{AreReached, AreRunTurns, course_by};
 ghost use Rattle.waff_plan.specs.Bound.{IsWorkers};
+ghost use Rattle.waff_read.specs.Hierarchies.{hierarchy_of};
 ghost use Rattle.waff_run.specs.Asked.{AsksFilling, GoesOn};
 ghost use Rattle.waff_run.specs.Faults.{IsOfRunning};
 ghost use Rattle.waff_run.specs.Files.{NamesFile};
@@ -27,12 +28,10 @@ use std::marker::Sync;
 use std::rt::Clock;
 use std::sync::Wait;
 use std::thread::Threads;
-use waff_inputs::{Accepted, ToolError};
+use waff_inputs::{Accepted, ToolError, accept_by_threads};
 use waff_list::{Rule, list_plan_of};
 use waff_model::{Message, Trace};
-use waff_record::{
-    RecordError, Recorded, RunTurns, StoppedRun, accept_measured, record_left, record_of,
-};
+use waff_record::{Recorded, RunTurns, StoppedRun, record_left, record_of};
 
 /// How a run is run.
 #[derive(Clone, Copy)]
@@ -78,6 +77,7 @@ pub fn run_on<R: Threads + Wait + Clock + Eprint + Sync, S: Store + Sync>(
 ) -> Result<RanOn<S::Hand>, Broken>
     requires workers { IsWorkers settings.now.pace.workers }
     requires tick { 1 ≤ settings.now.pace.tick }
+    requires read { hierarchy_of hierarchy.now ≡ Ok accepted.now.layout }
     requires assigned { IsAssignment accepted.now.layout accepted.now.trace.messages accepted.now.assigned }
     requires fresh { AreFresh (length accepted.now.trace.messages)
         (map (option_map S.log) hands.items) }
@@ -131,6 +131,8 @@ fn told_on<R: Threads + Sync, H: Drop>(
 ) -> Result<RanOn<H>, Broken>
     requires workers { IsWorkers settings.now.pace.workers }
     requires tick { 1 ≤ settings.now.pace.tick }
+    requires read { hierarchy_of hierarchy.now ≡ Ok accepted.now.layout }
+    requires assigned { IsAssignment accepted.now.layout accepted.now.trace.messages accepted.now.assigned }
     requires ran { AreRunTurns (course_by (instance_under accepted.now.layout
         accepted.now.assigned accepted.now.trace) settings.now.pace.workers settings.now.pace.tick) ran.turns.items }
     ensures told { IfOk result (λ on. TellRun hierarchy.now
@@ -144,12 +146,14 @@ fn told_on<R: Threads + Sync, H: Drop>(
 {
     let Ran { turns, hands } = ran;
     let run = RunTurns {
+        hierarchy,
+        layout: &accepted.layout,
         case: accepted.case(),
         turns: turns.as_slice(),
         workers: settings.pace.workers,
         tick: settings.pace.tick,
     };
-    let told = record_of(rt, alloc, &run, hierarchy, trace);
+    let told = record_of(rt, alloc, &run, trace);
     drop(turns);
     match told {
         Ok(told) => Ok(RanOn { told, hands }),
@@ -175,6 +179,7 @@ fn broken_of<R: Threads + Sync>(
 ) -> Broken
     requires workers { IsWorkers settings.now.pace.workers }
     requires tick { 1 ≤ settings.now.pace.tick }
+    requires read { hierarchy_of hierarchy.now ≡ Ok accepted.now.layout }
     requires assigned { IsAssignment accepted.now.layout accepted.now.trace.messages accepted.now.assigned }
     requires reached { IfSome halted.turns (λ turns. AreReached (course_by (instance_under accepted.now.layout
         accepted.now.assigned accepted.now.trace) settings.now.pace.workers settings.now.pace.tick) turns.items) }
@@ -196,12 +201,13 @@ fn broken_of<R: Threads + Sync>(
         return untold(error);
     }
     let run = StoppedRun {
+        hierarchy,
         whole: accepted,
         turns: turns.as_slice(),
         workers: settings.pace.workers,
         tick: settings.pace.tick,
     };
-    let left = record_left(rt, alloc, &run, hierarchy, trace);
+    let left = record_left(rt, alloc, &run, trace);
     drop(turns);
     match left {
         Ok(told) => Broken {
@@ -367,10 +373,10 @@ pub fn planned_length<R: Threads + Sync>(
     hierarchy: &[u8],
     measured: &[u8],
     workers: u32,
-) -> Result<u64, RecordError>
+) -> Result<u64, ToolError>
     requires workers { IsWorkers workers }
 {
-    let accepted = accept_measured(rt, alloc, hierarchy, measured)?;
+    let accepted = accept_by_threads(rt, alloc, hierarchy, measured)?;
     let made = list_plan_of(alloc, accepted.case(), Rule::Arrival, workers)?;
     let length = made.plan().length();
     drop(made);

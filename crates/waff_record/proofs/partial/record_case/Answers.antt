@@ -28,5 +28,5 @@ returns g c =
       there = c.workers_run_one.ensures.there course is;
       after = c.workers_run_one.ensures.after course is;
       once = c.runs_once.ensures.each course is;
-    }) c.args.hierarchy.now (string_bytes told.measured) (string_bytes told.text) told.drift c.args.turns.now c.requires.turns texts)
+    }) c.args.run.now.hierarchy.now (string_bytes told.measured) (string_bytes told.text) told.drift c.args.turns.now c.requires.turns texts)
     c.record_of.ensures.texts

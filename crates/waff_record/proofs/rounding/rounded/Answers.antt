@@ -16,7 +16,7 @@ use Rattle.waff_plan.proofs.TimingLemmas.{length-timings_of}
 use Rattle.waff_line.specs.declared.turn.Turn.{Turn}
 use Rattle.waff_record.specs.Turns.{turn_at}
 use Rattle.waff_record.proofs.Pass.{AreFree, IsFreeFrom, StartsFrom, free_more, none_free}
-use Rattle.waff_record.proofs.Steps.{began_counted, costs_first, new_costs, new_finish, new_long, new_stay, new_told, number_of, told_all, turns_many, worker_there}
+use Rattle.waff_record.proofs.Steps.{all_timely, began_counted, costs_first, new_costs, new_finish, new_long, new_stay, new_timely, new_timings, new_told, number_of, timings_first, told_all, turns_many, worker_there}
 use Rattle.waff_record.proofs.rounding.rounded.Goals as goal
 
 pub by_begin-requires : goal.by_begin-requires
@@ -38,6 +38,8 @@ loop-place-init c =
       long = c.len-count.ensures.table.lengths;
       costs = costs_first run plan c.in_ok-plan.ensures.timings;
       told = λ p less. absurd (omega (arith, less));
+      timings = timings_first run.case.trace.now.messages plan.timings c.in_ok-plan.ensures.timings;
+      timely = λ p less. absurd (omega (arith, less));
       table = c.in_ok-table.ensures.table _;
       free = λ w among.
           none_free run.turns.now _ w _
@@ -163,6 +165,10 @@ loop-place-preserved c =
       costs = costs;
       told = new_told run ran began begun timings timings_are earlier plan new place m told.start told.cost noted within here old.are_noted old.costs old.long old.told c.set_turn.ensures
           turn turn_is latest found c.free_from-rest.result is_free c.issue-issue.result c.issue-issue.ensures.issue are.start (are.cost ∙ are.finish);
+      timings = new_timings run ran began begun timings timings_are earlier plan new place m told.start told.cost noted within here old.are_noted old.costs old.long old.told c.set_turn.ensures
+          old.timings;
+      timely = new_timely run ran began begun timings timings_are earlier plan new place m told.start told.cost noted within here old.are_noted old.costs old.long old.told c.set_turn.ensures
+          old.timely (let ends = are.cost in let early = are.early in omega (arith, ends, early));
       table = c.note.ensures.table again noted (table_again finish again noted c.loop-place.table stay old.table) ends_is;
       tree = c.note.ensures.tree ∙ old.tree;
       assigned = c.note.ensures.assigned ∙ old.assigned;
@@ -189,3 +195,15 @@ returns-clause-told c =
     let many = length-timings_of run.case.trace.now.messages in
     told_all run c.requires.ran c.in_ok-began.began.items c.in_ok-began.ensures c.in_ok-plan.plan.timings c.in_ok-plan.ensures.timings c.len-count.ensures.table.timings.earlier
     c.loop-place.plan c.loop-place.place (omega (arith, all, c.len-count.ensures.count, same, many)) c.loop-place.invariant.costs c.loop-place.invariant.told
+
+pub returns-clause-timings : goal.returns-clause-timings
+returns-clause-timings c = c.loop-place.invariant.timings
+
+pub returns-clause-timely : goal.returns-clause-timely
+returns-clause-timely c =
+    let run = c.args.run.now in
+    let all = c.loop-place-test.false in
+    let same = ap length c.in_ok-plan.ensures.timings in
+    let many = length-timings_of run.case.trace.now.messages in
+    all_timely run c.requires.ran c.in_ok-began.began.items c.in_ok-began.ensures c.in_ok-plan.plan.timings c.in_ok-plan.ensures.timings c.len-count.ensures.table.timings.earlier
+    c.loop-place.plan c.loop-place.place (omega (arith, all, c.len-count.ensures.count, same, many)) c.loop-place.invariant.costs c.loop-place.invariant.timely
