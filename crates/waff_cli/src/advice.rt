@@ -50,7 +50,7 @@ pub enum RunFault<'a> {
     File(&'a str),
     /// Not all workers could be started.
     Threads,
-    /// The check did not accept what was run.
+    /// The trace with the costs that were measured was not read back as it was written.
     Run,
 }
 
@@ -74,8 +74,8 @@ const LARGER_TICK: &str =
 const FEWER_WORKERS: &str =
     "this machine started only so many workers, so nothing was run: a smaller --workers, or a higher limit of processes or memory\n";
 
-const NOT_ACCEPTED: &str =
-    "the plan of what was run does not pass the check, so nothing is printed\n";
+const NOT_READ_BACK: &str =
+    "the trace of what was run is not read back as it was written, so nothing is printed\n";
 
 const ONE_FILE: &str =
     "the hierarchy, the trace, the file of --trace and each file of the folder have to be files of their own\n";
@@ -154,7 +154,7 @@ pub fn advice_on_run(alloc: Global, task: &RunTask, fault: RunFault<'_>) -> Advi
             "{folder}/{name}: it is no regular file, another run holds it, or it could not be opened, lengthened, read, written or synced\n"
         )),
         RunFault::Threads => Advice::Line(FEWER_WORKERS),
-        RunFault::Run => Advice::Line(NOT_ACCEPTED),
+        RunFault::Run => Advice::Line(NOT_READ_BACK),
     }
 }
 

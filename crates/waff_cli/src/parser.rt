@@ -116,13 +116,18 @@ fn arg<'a>(alloc: Global, word: Word) -> Arg<'a> {
     }
 }
 
+/// The word for the folder of the files of a run.
+fn folder<'a>(alloc: Global) -> Arg<'a> {
+    Arg::new(alloc, "DIR")
+        .value_name("DIR")
+        .required(true)
+        .help("The folder of the files, which are written over")
+}
+
 /// A word of `run` for where and how messages are run.
 fn run_arg<'a>(alloc: Global, word: RunWord) -> Arg<'a> {
     match word {
-        RunWord::Folder => Arg::new(alloc, "DIR")
-            .value_name("DIR")
-            .required(true)
-            .help("The folder of the files, which are written over"),
+        RunWord::Folder => folder(alloc),
         RunWord::Cell => cell(alloc),
         RunWord::Tick => option(
             alloc,
