@@ -25,4 +25,5 @@ mod AffinityLaws
 mod LockLaws
 mod RefusedLaws
 pub mod LimitLaws
+mod AnewLaws
 pub mod NamedLaws
