@@ -26,4 +26,5 @@ mod LockLaws
 mod RefusedLaws
 pub mod LimitLaws
 mod AnewLaws
+mod CutLaws
 pub mod NamedLaws
