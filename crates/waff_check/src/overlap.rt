@@ -77,12 +77,10 @@ fn second_of(planned: &Planned<'_>, i: u32) -> Option<u32>
 fn is_kept(alloc: Global, planned: &Planned<'_>, count: u32) -> Result<bool, AllocError>
     ensures { IfOk result (λ kept. IsTrue kept ↔ NoneAmong planned.now count) }
 {
-    let case = &planned.case;
-    let (tree, assigned, plan) = (case.tree, case.assigned, planned.plan);
-    if case.trace.version().has_clients() {
-        keeps_apart(alloc, tree, assigned, plan, count)
+    if planned.case.trace.version().has_clients() {
+        keeps_apart(alloc, planned, count)
     } else {
-        keeps_order(alloc, tree, assigned, plan, count)
+        keeps_order(alloc, planned, count)
     }
 }
 

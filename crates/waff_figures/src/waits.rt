@@ -42,7 +42,7 @@ pub(crate) fn waits(alloc: Global, planned: &Planned<'_>) -> Result<Vec<Wait>, A
         All (IsWaitAmong (length planned.now.case.assigned.now)) waits.items) }
 {
     let plan = planned.plan;
-    let links = waited(alloc, planned.case.tree, planned.case.assigned, plan)?;
+    let links = waited(alloc, planned)?;
     let locks = locks_waited_for(alloc, &planned.case, links.as_slice())?;
     let mut waits = Vec::new(alloc);
     for m in 1..plan.len() + 1 {

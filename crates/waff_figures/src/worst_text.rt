@@ -56,12 +56,7 @@ pub fn worst_messages_text(
         planned.now.case.trace.now.messages (planned_work planned.now)
         (planned_starts planned.now) waited by worst))) }
 {
-    let waited = waited(
-        alloc,
-        planned.case.tree,
-        planned.case.assigned,
-        planned.plan,
-    )?;
+    let waited = waited(alloc, planned)?;
     let by = locks_waited_for(alloc, &planned.case, waited.as_slice())?;
     let worst = worst(alloc, planned.plan, most)?;
     let mut text = String::new(alloc);

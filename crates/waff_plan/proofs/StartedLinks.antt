@@ -11,7 +11,7 @@ use Rattle.waff_assign.specs.Order.{IsOrdered, Relation, held_of}
 use Rattle.waff_plan.specs.ByStart.{AreByStart, started_at, started_of}
 use Rattle.waff_plan.specs.Obeys.{EachRuns}
 use Rattle.waff_plan.specs.ServesAs.{ObeysApart}
-use Rattle.waff_plan.specs.Serving.{chain_key, started_before}
+use Rattle.waff_plan.specs.Serving.{IsStartedBefore, chain_key, started_before}
 use Rattle.waff_plan.specs.Work.{Work, IsAmongFirst, IsNumber}
 use Rattle.waff_plan.specs.declared.sequence.Started.{Started}
 use Rattle.waff_plan.proofs.ApartLaws.{number_here}
@@ -39,30 +39,24 @@ module _ (tree : List Node) (assigned : List Held) (work : Work) (same : length 
     sooner = λ i m pair. pair.earlier;
   }
 
+  sorts_starts : (start : ℕ → ℕ) → EachRuns work → ObeysApart tree assigned work start → Sorts tree assigned work start (IsStartedBefore tree assigned start)
+  sorts_starts start runs obeys = record {
+    to = λ i m first second other excludes no_later.
+        let one : IsAmongFirst (length assigned) i = record { from = first.from; to = omega (arith, first.to, same) } in
+        let two : IsAmongFirst (length assigned) m = record { from = second.from; to = omega (arith, second.to, same) } in
+        let done = apart_finish tree assigned work same runs start obeys.apart i m other one two excludes no_later in
+        record { first = one; second = two; precedes = omega (arith, done, runs i first); excludes = excludes };
+    number = λ i m pair. record { from = pair.first.from; to = omega (arith, pair.first.to, same) };
+    excludes = λ i m pair. pair.excludes;
+    sooner = λ i m pair. pair.precedes;
+  }
+
   pub sorts : (version : Version) (start : ℕ → ℕ) → EachRuns work → (has_clients version ≡ true → ObeysApart tree assigned work start)
       → Sorts tree assigned work (chain_key version start) (started_before version tree assigned start)
   sorts V1 start runs obeys = sorts_numbers
   sorts V2 start runs obeys = sorts_numbers
-  sorts V3 start runs obeys = record {
-    to = λ i m first second other excludes no_later.
-        let one : IsAmongFirst (length assigned) i = record { from = first.from; to = omega (arith, first.to, same) } in
-        let two : IsAmongFirst (length assigned) m = record { from = second.from; to = omega (arith, second.to, same) } in
-        let done = apart_finish tree assigned work same runs start (obeys refl).apart i m other one two excludes no_later in
-        record { first = one; second = two; precedes = omega (arith, done, runs i first); excludes = excludes };
-    number = λ i m pair. record { from = pair.first.from; to = omega (arith, pair.first.to, same) };
-    excludes = λ i m pair. pair.excludes;
-    sooner = λ i m pair. pair.precedes;
-  }
-  sorts V4 start runs obeys = record {
-    to = λ i m first second other excludes no_later.
-        let one : IsAmongFirst (length assigned) i = record { from = first.from; to = omega (arith, first.to, same) } in
-        let two : IsAmongFirst (length assigned) m = record { from = second.from; to = omega (arith, second.to, same) } in
-        let done = apart_finish tree assigned work same runs start (obeys refl).apart i m other one two excludes no_later in
-        record { first = one; second = two; precedes = omega (arith, done, runs i first); excludes = excludes };
-    number = λ i m pair. record { from = pair.first.from; to = omega (arith, pair.first.to, same) };
-    excludes = λ i m pair. pair.excludes;
-    sooner = λ i m pair. pair.precedes;
-  }
+  sorts V3 start runs obeys = sorts_starts start runs (obeys refl)
+  sorts V4 start runs obeys = sorts_starts start runs (obeys refl)
 
 -- before the third version the key is the number
 pub numbers_key : (version : Version) (start : ℕ → ℕ) → has_clients version ≡ false → chain_key version start ≡ (λ m. m)

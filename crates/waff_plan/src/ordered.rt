@@ -4,21 +4,18 @@
 ghost use Rattle.std.specs.Prelude.{◌≡◌, ◌<◌, ◌≤◌, ◌↔◌, ℕ, List, length, option_map, None};
 ghost use Rattle.std.specs.Prelude.{IfOk, IfSome, IsTrue};
 ghost use Rattle.waff_model.specs.Numbers.{IsAmongFirst};
-ghost use Rattle.waff_assign.specs.Held.{AreKnown};
-ghost use Rattle.waff_assign.specs.Order.{IsOrdered};
+ghost use Rattle.waff_assign.specs.Case.{pairs_of};
 ghost use Rattle.waff_plan.specs.ByStart.{AreMessages, walk_of};
 ghost use Rattle.waff_plan.specs.Keeps.{KeepsPairs};
 ghost use Rattle.waff_plan.specs.Obeys.{IsAmong, KeepsOrder};
+ghost use Rattle.waff_plan.specs.Planned.{planned_starts, planned_work};
 ghost use Rattle.waff_plan.specs.Table.{IsLatestExcluding, IsTable};
-ghost use Rattle.waff_plan.specs.Timetable.{work_in, starts_in};
 
-use crate::Plan;
+use crate::Planned;
 use crate::latest::Latest;
 use crate::sequence::{Started, number_at};
 use crate::table::Table;
 use std::alloc::{AllocError, Global};
-use waff_assign::Assigned;
-use waff_model::Tree;
 
 /// Which pairs of messages are looked at, by the numbers of the two.
 #[derive(Clone, Copy)]
@@ -42,46 +39,37 @@ impl Pairs {
 
 /// Whether each message starts only when every earlier one of the first `count` that excludes it
 /// has finished. Each message is looked at once.
-pub fn keeps_order(
-    alloc: Global,
-    tree: &Tree,
-    assigned: &Assigned,
-    plan: &Plan,
-    count: u32,
-) -> Result<bool, AllocError>
-    requires lengths { length plan.now.timings ≡ length assigned.now }
-    requires known { AreKnown tree.now assigned.now }
+pub fn keeps_order(alloc: Global, planned: &Planned<'_>, count: u32) -> Result<bool, AllocError>
     ensures { IfOk result (λ kept. IsTrue kept
-        ↔ KeepsOrder (IsAmong count (IsOrdered tree.now assigned.now))
-        (work_in plan.now) (starts_in plan.now)) }
+        ↔ KeepsOrder (IsAmong count (pairs_of planned.now.case))
+        (planned_work planned.now) (planned_starts planned.now)) }
 {
     let pairs = Pairs {
         from: 1,
         to: count,
-        last: plan.len(),
+        last: planned.plan.len(),
     };
-    keeps(alloc, tree, assigned, plan, &None, pairs)
+    keeps(alloc, planned, &None, pairs)
 }
 
 /// Whether of each of these pairs in a sequence of the messages the later starts only when the
-/// earlier has finished, where the two exclude each other. Each message is looked at once, with the latest of those that were noted before it.
+/// earlier has finished, where the two exclude each other. Each message is looked at once, with the
+/// latest of those that were noted before it.
 pub(crate) fn keeps(
     alloc: Global,
-    tree: &Tree,
-    assigned: &Assigned,
-    plan: &Plan,
+    planned: &Planned<'_>,
     sequence: &Option<Vec<Started>>,
     pairs: Pairs,
 ) -> Result<bool, AllocError>
-    requires lengths { length plan.now.timings ≡ length assigned.now }
-    requires known { AreKnown tree.now assigned.now }
-    requires sequence { AreMessages (length plan.now.timings)
-        (walk_of (length plan.now.timings) (option_map (λ list. list.items) sequence.now)) }
-    ensures { IfOk result (λ kept. IsTrue kept
-        ↔ KeepsPairs tree.now assigned.now (work_in plan.now) (starts_in plan.now)
-        (walk_of (length plan.now.timings) (option_map (λ list. list.items) sequence.now)) pairs) }
+    requires sequence { AreMessages (planned_work planned.now).count
+        (walk_of (planned_work planned.now).count (option_map (λ list. list.items) sequence.now)) }
+    ensures { IfOk result (λ kept. IsTrue kept ↔ KeepsPairs planned.now.case.tree.now
+        planned.now.case.assigned.now (planned_work planned.now) (planned_starts planned.now)
+        (walk_of (planned_work planned.now).count (option_map (λ list. list.items) sequence.now))
+        pairs) }
 {
-    let mut table = Table::new(alloc, tree, assigned)?;
+    let plan = planned.plan;
+    let mut table = Table::new(alloc, planned.case.tree, planned.case.assigned)?;
     for place in 0..plan.len() {
         let m = number_at(sequence, place);
         if !is_finished_by(latest_for(&table, m, pairs.last), plan.start(m)) {

@@ -40,7 +40,7 @@ pub fn certified_plan(alloc: Global, case: &Case<'_>) -> Result<Certified, Alloc
     ensures certified { IfOk result (λ found. IsCertified (instance_of case.now)
         (start_of found.plan.starts) found.chain.messages) }
 {
-    let made = linked_plan(alloc, case.tree, case.assigned, case.trace)?;
+    let made = linked_plan(alloc, case)?;
     let (plan, links) = made;
     let _messages = plan.len();
     let chain = linked_chain(alloc, case.tree, case.assigned, &plan, links.as_slice())?;
