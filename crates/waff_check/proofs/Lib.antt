@@ -14,3 +14,4 @@ mod ShortLaws
 pub mod PromiseLaws
 pub mod Uniqueness
 pub mod OwnLaws
+pub mod Tellable

@@ -189,7 +189,7 @@ module _ (instance : Instance) (workers : Option ℕ) (start : ℕ → ℕ)
       let to : n ≤ work.count = number.to in
       get_or-map-range_with_len (row_told instance.tree instance.assigned work start worker) 1 work.count (n - 1) n no_row (omega arith) (omega arith)
 
-  tells_start : AreSame work (start_in claim) start
+  pub tells_start : AreSame work (start_in claim) start
   tells_start n number =
       let from : 1 ≤ n = number.from in
       let to : n ≤ work.count = number.to in
@@ -200,7 +200,7 @@ module _ (instance : Instance) (workers : Option ℕ) (start : ℕ → ℕ)
   tells_back : AreSame work start (start_in claim)
   tells_back n number = sym (tells_start n number)
 
-  tells_worker : (n : ℕ) → IsNumber work n → worker_in claim.plan n ≡ worker n
+  pub tells_worker : (n : ℕ) → IsNumber work n → worker_in claim.plan n ≡ worker n
   tells_worker n number = ap (λ (row : Row). row.worker) (tells_row n number)
 
   long : length instance.assigned ≡ length instance.trace.messages → length instance.assigned ≡ work.count

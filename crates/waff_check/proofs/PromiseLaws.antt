@@ -9,6 +9,7 @@ use Rattle.waff_plan.specs.Apart.{AreApart}
 use Rattle.waff_plan.specs.Bound.{IsWorkers}
 use Rattle.waff_plan.specs.Chain.{IsChain}
 use Rattle.waff_plan.specs.Obeys.{AwaitsEarlier, Obeys}
+use Rattle.waff_plan.specs.Rivals.{IsRivalWhere}
 use Rattle.waff_plan.specs.Serving.{started_before}
 use Rattle.waff_plan.specs.Work.{length_of}
 use Rattle.waff_plan.specs.Workers.{IsWorkerPlan, running}
@@ -19,7 +20,7 @@ use Rattle.waff_plan.proofs.LowerBounds.{none_is_below}
 use Rattle.waff_plan.proofs.TimingLemmas.{length-timings_of}
 use Rattle.waff_check.specs.Faults.{HasWrongWorker, IsCrowded, NoneOf}
 use Rattle.waff_plan_text.specs.Given.{IsGiven}
-use Rattle.waff_check.specs.Promises.{Accepts, AreOneAtATime, IsRivalWhere, IsWithin, Promises, ServesAlike}
+use Rattle.waff_check.specs.Promises.{Accepts, AreOneAtATime, IsWithin, Promises, ServesAlike, limit_where}
 use Rattle.waff_check.specs.Verdicts.{Claim, IsClaim, IsFaultless, IsShortWhere, IsVerdict, ReachesLength, before_of, chain_in, lower_bound_in, pairs_of_claim, start_in, version_of, work_of_claim, worker_in, workers_in}
 use Rattle.waff_check.specs.declared.verdict.Verdict.{Verdict}
 use Rattle.waff_check.specs.declared.verdict.Verdict.TheVariants as verdict
@@ -39,7 +40,7 @@ faultless-of claim _ h a v less = absurd a
 
 -- where messages have clients no plan that obeys is shorter than the lower bound
 none-below : (claim : Claim) → IsClaim claim → AwaitsEarlier (work_of_claim claim) → IsGiven claim.plan → IsTree claim.instance.tree
-    → (other : ℕ → ℕ) → IsRivalWhere true claim other → lower_bound_in claim ≤ length_of (work_of_claim claim) other
+    → (other : ℕ → ℕ) → IsRivalWhere true (workers_in claim) claim.instance other → lower_bound_in claim ≤ length_of (work_of_claim claim) other
 none-below claim is earlier given tree =
     none_is_below (workers_in claim) claim.instance.tree claim.instance.assigned (work_of_claim claim) tree
     (omega (arith, is.lengths, length-timings_of claim.instance.trace.messages)) given.workers earlier
@@ -98,9 +99,10 @@ module _ (claim : Claim) (is : IsClaim claim) (run : AllRun (work_of_claim claim
       let within = chains_are_within_length (before_of claim) (work_of_claim claim) (chain_in claim) other (chain-of given good) ((serves good other).0 s) in
       omega (arith, within, reach)
 
-  shortest-in : (version : Version) → ((other : ℕ → ℕ) → IsRivalWhere true claim other → lower_bound_in claim ≤ length_of (work_of_claim claim) other)
+  shortest-in : (version : Version) → ((other : ℕ → ℕ) → IsRivalWhere true (workers_in claim) claim.instance other → lower_bound_in claim ≤ length_of (work_of_claim claim) other)
       → IsChain (started_before version claim.instance.tree claim.instance.assigned (start_in claim)) (work_of_claim claim) (chain_in claim)
-      → IsShortWhere (has_clients version) claim → (other : ℕ → ℕ) → IsRivalWhere (has_clients version) claim other
+      → IsShortWhere (has_clients version) claim → (other : ℕ → ℕ)
+      → IsRivalWhere (has_clients version) (limit_where (has_clients version) claim) claim.instance other
       → length_of (work_of_claim claim) (start_in claim) ≤ length_of (work_of_claim claim) other
   shortest-in V1 least chain reach other o =
       omega (arith, chains_are_within_length (pairs_of_claim claim) (work_of_claim claim) (chain_in claim) other chain o, reach)

@@ -75,7 +75,7 @@ pub record HasWrongFinish (work : Work) (start told : ℕ → ℕ) (n : ℕ) : T
   pub number : IsNumber work n
   pub wrong : told n ≢ finish_of work start n
 
--- a message whose row tells a start below its release
+-- a message whose row tells a start below its floor
 pub record StartsEarly (work : Work) (start : ℕ → ℕ) (n : ℕ) : Type 0 where
   pub number : IsNumber work n
   pub early : start n < work.floor n

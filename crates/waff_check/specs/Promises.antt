@@ -1,11 +1,11 @@
 -- What a verdict without a fault implies.
-use Rattle.std.specs.Prelude.{◌≡◌, ◌↔◌, ℕ, ◌<◌, ◌≤◌, Bool, false, true, Option, Some}
+use Rattle.std.specs.Prelude.{◌≡◌, ◌↔◌, ℕ, ◌<◌, ◌≤◌, Bool, false, true, Option, Some, None}
 use Rattle.waff_model.specs.Versions.{has_clients}
 use Rattle.waff_plan.specs.Apart.{AreApart}
 use Rattle.waff_plan.specs.Bound.{IsWithinBound, IsWithinTwice, IsWithinRatio}
 use Rattle.waff_plan.specs.Chain.{IsChain}
-use Rattle.waff_plan.specs.LowerBound.{ObeysInSomeOrder}
 use Rattle.waff_plan.specs.Obeys.{Obeys}
+use Rattle.waff_plan.specs.Rivals.{IsRival}
 use Rattle.waff_plan.specs.ServesAs.{ServesAs}
 use Rattle.waff_plan.specs.Work.{IsNumber, Work, length_of}
 use Rattle.waff_plan.specs.Workers.{IsWorkerPlan}
@@ -31,16 +31,14 @@ pub record AreOneAtATime (work : Work) (start : ℕ → ℕ)
   pub apart : (i j w : ℕ) → IsNumber work i → IsNumber work j
       → i < j → worker i ≡ Some w → worker j ≡ Some w → RunTogether work start i j → ⊥
 
--- the plans none of which is shorter than a shortest one: those that obey the order of the trace, or
--- where messages have clients those that obey in whatever order, for as many workers
-abbrev pub IsRivalWhere : Bool → Claim → (ℕ → ℕ) → Type 0
-IsRivalWhere false claim other = Obeys (pairs_of_claim claim) (work_of_claim claim) other
-IsRivalWhere true claim other =
-    ObeysInSomeOrder claim.instance.tree claim.instance.assigned (work_of_claim claim)
-    (workers_in claim) other
+-- for how many workers no plan is shorter than a shortest one: where messages have clients for as
+-- many as it has, else without a limit on them, since it is as long as a chain
+abbrev pub limit_where : Bool → Claim → Option ℕ
+limit_where false claim = None
+limit_where true claim = workers_in claim
 
-abbrev pub IsRival : Claim → (ℕ → ℕ) → Type 0
-IsRival claim other = IsRivalWhere (has_clients (version_of claim)) claim other
+abbrev pub limit_of : Claim → Option ℕ
+limit_of claim = limit_where (has_clients (version_of claim)) claim
 
 -- the plans that serve as this one does
 abbrev pub ServesAlike : Claim → (ℕ → ℕ) → Type 0
@@ -70,7 +68,8 @@ pub record Promises (claim : Claim) (v : Verdict) : Type 0 where
   pub one_at_a_time : Accepts v → (k : ℕ) → workers_in claim ≡ Some k
       → AreOneAtATime (work_of_claim claim) (start_in claim) (worker_in claim.plan) k
   pub chain : Accepts v → IsChain (before_of claim) (work_of_claim claim) (chain_in claim)
-  pub shortest : v ≡ verdict.Shortest → (other : ℕ → ℕ) → IsRival claim other
+  pub shortest : v ≡ verdict.Shortest → (other : ℕ → ℕ)
+      → IsRival (limit_of claim) claim.instance other
       → length_of (work_of_claim claim) (start_in claim) ≤ length_of (work_of_claim claim) other
   pub tight : v ≡ verdict.Tight → (other : ℕ → ℕ) → ServesAlike claim other
       → length_of (work_of_claim claim) (start_in claim) ≤ length_of (work_of_claim claim) other

@@ -1,3 +1,4 @@
 mod Numbers
 mod OneAsked
+mod OneRun
 mod Rows

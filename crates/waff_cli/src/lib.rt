@@ -15,7 +15,8 @@
 //! limits, and no more. A question holds the bytes of those files.
 //!
 //! What is to be done is what the words ask for that `clap` found (`IsTask`): each part of it is an
-//! equation with the words of one option, and what was found asks for one thing (`asked_is_one`).
+//! equation with the words of one option, and what was found asks for one thing (`asked_is_one`), or
+//! says of one way how messages are to be run (`run_is_one`).
 //! It has numbers of workers and threads within the limits, and as many files as it takes. Which
 //! files are named, and what `clap` finds in the words, is tested in `tests/commands`.
 #![tactic(auto)]
@@ -46,5 +47,5 @@ pub use run_words::RunWords;
 pub use task::{Question, RunTask, Task};
 pub use threads::thread_count;
 pub use tick::Tick;
-pub use unique::asked_is_one;
+pub use unique::{asked_is_one, run_is_one};
 pub use words::{Asked, Drawing};

@@ -14,12 +14,13 @@ use Rattle.waff_plan.specs.Instances.{work_of_instance}
 use Rattle.waff_plan.specs.Laws.{LeastIsShortest, NoneIsShorter}
 use Rattle.waff_plan.specs.LowerBound.{NoneIsBelow}
 use Rattle.waff_plan.specs.Obeys.{AwaitsEarlier, IsLeast}
+use Rattle.waff_plan.specs.Rivals.{IsRivalWhere, ObeysFor}
 use Rattle.waff_plan.specs.Serving.{served_before}
 use Rattle.waff_plan.specs.Work.{Work, length_of, total_of}
 use Rattle.waff_plan.proofs.TimingLemmas.{are_timings, length-timings_of}
 use Rattle.waff_plan_text.specs.Ratio.{RatioUpIsUpperBound, hundredths_field}
 use Rattle.waff_figures.specs.declared.figures.Figures.{Figures}
-use Rattle.waff_figures.specs.Least.{IsRivalWhere, LeastIsLowerBound, ObeysFor, OneIsShortest, OverIsUpperBound, least_of, least_where}
+use Rattle.waff_figures.specs.Least.{LeastIsLowerBound, OneIsShortest, OverIsUpperBound, least_of, least_where}
 
 -- in the order of the trace
 least_in_order : (limit : Option ℕ) (before : Relation) (work : Work) → LeastIsShortest before work → NoneIsShorter before work → (start other : ℕ → ℕ)

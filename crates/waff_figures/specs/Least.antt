@@ -3,36 +3,19 @@ use Rattle.std.specs.Prelude.{◌≡◌, ℕ, ◌*◌, ◌/◌, ◌^◌, ◌<◌
 use Rattle.std.specs.Prelude.{None, IfSome, codes, length}
 use Rattle.waff_model.specs.Tree.{IsTree}
 use Rattle.waff_model.specs.Versions.{has_clients}
-use Rattle.waff_assign.specs.Instance.{Instance, before_in}
-use Rattle.waff_assign.specs.Order.{Relation}
+use Rattle.waff_assign.specs.Instance.{Instance}
 use Rattle.waff_plan.specs.Bound.{IsWorkers}
 use Rattle.waff_plan.specs.Instances.{served_first, work_of_instance}
 use Rattle.waff_plan.specs.Laws.{least_for}
-use Rattle.waff_plan.specs.LowerBound.{ObeysInSomeOrder, lower_bound_of}
-use Rattle.waff_plan.specs.Obeys.{AwaitsEarlier, IsLeast, Obeys}
-use Rattle.waff_plan.specs.Work.{Work, length_of, total_of}
-use Rattle.waff_plan.specs.Workers.{IsWorkerPlan}
+use Rattle.waff_plan.specs.LowerBound.{lower_bound_of}
+use Rattle.waff_plan.specs.Obeys.{AwaitsEarlier, IsLeast}
+use Rattle.waff_plan.specs.Rivals.{IsRival}
+use Rattle.waff_plan.specs.Work.{length_of, total_of}
 use Rattle.waff_plan_text.specs.Ratio.{hundredths_field, ratio_up_field}
 use Rattle.waff_figures.specs.Figures.{AreFigures}
 use Rattle.waff_figures.specs.declared.figures.Figures.{Figures}
 
--- an obeying plan, and where there are k workers a worker plan for k
-abbrev pub ObeysFor : Option ℕ → Relation → Work → (ℕ → ℕ) → Type 0
-ObeysFor None before work start = Obeys before work start
-ObeysFor (Some k) before work start = IsWorkerPlan before work k start
-
--- the plans for as many workers that a plan is told beside: where messages have clients those that obey
--- in whatever order, else those that obey the order of the trace
-abbrev pub IsRivalWhere : Bool → Option ℕ → Instance → (ℕ → ℕ) → Type 0
-IsRivalWhere false limit instance other =
-    ObeysFor limit (before_in instance) (work_of_instance instance) other
-IsRivalWhere true limit instance other =
-    ObeysInSomeOrder instance.tree instance.assigned (work_of_instance instance) limit other
-
-abbrev pub IsRival : Option ℕ → Instance → (ℕ → ℕ) → Type 0
-IsRival limit instance other = IsRivalWhere (has_clients instance.trace.version) limit instance other
-
--- none of them is shorter than this
+-- no plan for as many workers beside which a plan is told is shorter than this
 abbrev pub IsLowerBound : Option ℕ → Instance → ℕ → Type 0
 IsLowerBound limit instance bound =
     (other : ℕ → ℕ) → IsRival limit instance other

@@ -35,6 +35,7 @@ pub mod IssueLaws
 pub mod Planned
 pub mod Instances
 pub mod LowerBound
+pub mod Rivals
 pub mod LockNeeds
 pub mod Peak
 pub mod TreeStarts

@@ -1,49 +1,43 @@
 -- What is told of a run is a plan of the trace with the costs that are told, in which the check finds no fault, and its text tells it.
-use Rattle.std.proofs.Common.{◌≡◌, ℕ, ◌+◌, ◌-◌, ◌*◌, ◌<◌, ◌≤◌, true, List, [], length, map, get_or, Option, Some, None, Ok, refl, sym, ◌∙◌, ap, subst, arith}
-use Rattle.std.specs.Prelude.{All, option_map, unwrap_or}
+use Rattle.std.proofs.Common.{◌≡◌, ℕ, ◌+◌, ◌-◌, ◌*◌, ◌≤◌, true, List, length, map, Some, refl, sym, ◌∙◌, ap, subst, arith}
+use Rattle.std.specs.Prelude.{All}
 use Rattle.std.proofs.Math.ListN.{get_or-map as get_or-map_same}
-use Rattle.std.proofs.lemmas.List.{get_or-map, length-map}
-use Rattle.std.proofs.lemmas.List.FromFn.{get_or-map-range_with_len, length-map-range_with_len}
-use Rattle.std.proofs.lemmas.Option.{slice_get-get_or}
+use Rattle.std.proofs.lemmas.List.{length-map}
 use Rattle.waff_model.specs.Messages.{Arrivals, IsTrace}
 use Rattle.waff_model.specs.Names.{is_name}
-use Rattle.waff_model.specs.Tree.{IsTree, Node, name_of}
-use Rattle.waff_model.specs.declared.limits.TheConstants.{MAX_TICK}
+use Rattle.waff_model.specs.Tree.{IsTree, Node}
 use Rattle.waff_model.specs.declared.message.Version.{Version}
 use Rattle.waff_model.specs.declared.message.Version.TheVariants.{V1, V2, V3, V4}
 use Rattle.waff_read.proofs.NamedLaws.{affinities_are_named}
 use Rattle.waff_assign.specs.Case.{instance_of}
-use Rattle.waff_assign.specs.Held.{AreKnown, Held}
+use Rattle.waff_assign.specs.Held.{Held}
 use Rattle.waff_assign.specs.Instance.{Instance}
-use Rattle.waff_assign.specs.Order.{IsOrdered, affinity_name, affinity_of, name_or_hyphen}
-use Rattle.waff_assign.proofs.Holding.{affinity_known}
+use Rattle.waff_assign.specs.Order.{IsOrdered, affinity_name}
 use Rattle.waff_plan.specs.Apart.{AreApart}
 use Rattle.waff_plan.specs.Chain.{IsChain, IsListed}
 use Rattle.waff_plan.specs.Instances.{started_first, work_of_instance}
 use Rattle.waff_plan.specs.Obeys.{AwaitsEarlier, EachRuns, KeepsOrder, Obeys, StartsIssued}
 use Rattle.waff_plan.specs.Serving.{served_before, started_before, started_in}
-use Rattle.waff_plan.specs.Timetable.{IsTimetable, Timetable, starts_in, timings_of, work_in}
+use Rattle.waff_plan.specs.Timetable.{IsTimetable, starts_in, timings_of, work_in}
 use Rattle.waff_plan.specs.Timing.{work_of}
-use Rattle.waff_plan.specs.Unique.{AreSame}
-use Rattle.waff_plan.specs.Work.{IsNumber, Work, finish_of, length_of, numbers}
+use Rattle.waff_plan.specs.Work.{IsNumber, Work, finish_of, length_of}
 use Rattle.waff_plan.specs.Workers.{IsWorkerPlan}
 use Rattle.waff_plan.specs.declared.timing.Timing.{Timing}
 use Rattle.waff_plan.proofs.StartOrder.{apart_obeys}
 use Rattle.waff_plan.proofs.TimingLemmas.{length-timings_of}
 use Rattle.waff_plan.proofs.Uniqueness.{same_length}
-use Rattle.waff_plan_text.specs.Given.{Given, no_row, row_at}
-use Rattle.waff_plan_text.specs.Laws.{IsTellable, plan_told, row_told}
+use Rattle.waff_plan_text.specs.Given.{Given}
+use Rattle.waff_plan_text.specs.Laws.{IsTellable, plan_told}
 use Rattle.waff_plan_text.specs.Lines.{text_of}
 use Rattle.waff_plan_text.specs.PlanTexts.{plan_of}
 use Rattle.waff_plan_text.specs.Spelling.{seat_of, worker_lines}
-use Rattle.waff_plan_text.specs.declared.row.Row.{Row}
 use Rattle.waff_plan_text.proofs.WrittenPlans.{written_is_read}
 use Rattle.waff_check.specs.OwnPlans.{IsAccepted, claim_told}
 use Rattle.waff_check.specs.Promises.{AreOneAtATime, Promises}
 use Rattle.waff_check.specs.Shifts.{IsOneOf}
-use Rattle.waff_check.specs.Verdicts.{Claim, IsClaim, start_in, worker_in}
-use Rattle.waff_check.proofs.OwnLaws.{own_plan_is_accepted}
-use Rattle.waff_check.proofs.PromiseLaws.{promises}
+use Rattle.waff_check.specs.Verdicts.{Claim, start_in}
+use Rattle.waff_check.proofs.OwnLaws.{own_plan_is_accepted, tells_start, tells_worker}
+use Rattle.waff_check.proofs.Tellable.{IsModest, modest, rows_told, told_names, told_promises}
 use Rattle.waff_line.specs.declared.turn.Turn.{Turn}
 use Rattle.waff_record.specs.Drift.{drift_of, last_finish}
 use Rattle.waff_record.specs.Laws.{TellsTurns}
@@ -57,7 +51,7 @@ use Rattle.waff_record.proofs.Counted.{turns_of_all}
 use Rattle.waff_record.proofs.Kept.{is_kept}
 use Rattle.waff_record.proofs.Measured.{timings_told}
 use Rattle.waff_record.proofs.Rows.{is_course, rounded_alike}
-use Rattle.waff_record.proofs.Tellable.{IsModest, given_of, modest, tellable}
+use Rattle.waff_record.proofs.Tellable.{run_tellable}
 use Rattle.waff_record.proofs.Telling.{rounding_tells}
 
 -- the seat of a turn
@@ -75,17 +69,6 @@ started_obeys V3 tree assigned work other start begun long runs issued order apa
     apart_obeys tree assigned work long runs start (record { issued = issued; apart = apart })
 started_obeys V4 tree assigned work other start begun long runs issued order apart =
     apart_obeys tree assigned work long runs start (record { issued = issued; apart = apart })
-
--- the names of affinities are names, which a hyphen is too
-named_or_hyphen : (tree : List Node) → All (λ (node : Node). is_name node.name ≡ true) tree → (o : Option ℕ) → ((a : ℕ) → o ≡ Some a → a < length tree)
-    → is_name (name_or_hyphen tree o) ≡ true
-named_or_hyphen tree named None within = refl
-named_or_hyphen tree named (Some a) within =
-    let no_node : Node = record { name = []; parent = None } in
-    let there = within a refl in
-    let is : name_of tree a ≡ (get_or tree a no_node).name =
-    ap (λ o. unwrap_or (option_map (λ (node : Node). node.name) o) []) (slice_get-get_or tree a no_node there) in
-    ap is_name is ∙ named a no_node there
 
 module _ (told : ToldRun) (is : IsToldRun told) (measured : Arrivals) (trace : IsToldTrace told.run.case.trace.now told.plan.now measured)
     (table : IsTimetable told.plan.now) (is_trace : IsTrace measured) (is_tree : IsTree told.run.case.tree.now) where
@@ -153,8 +136,7 @@ module _ (told : ToldRun) (is : IsToldRun told) (measured : Arrivals) (trace : I
   named n number =
       let names = subst (λ (t : List Node). All (λ (node : Node). is_name node.name ≡ true) t) (sym told.run.tree)
       (affinities_are_named told.run.hierarchy.now told.run.layout.now told.run.read) in
-      named_or_hyphen tree names (affinity_of assigned n)
-      (λ a is_a. affinity_known tree assigned n a told.run.case.known number.from (omega (arith, number.to, long)) is_a)
+      told_names tree assigned names told.run.case.known n (record { from = number.from; to = omega (arith, number.to, long) })
 
   within_limits : IsModest measured.version work
   within_limits = modest measured is_trace
@@ -197,39 +179,25 @@ module _ (told : ToldRun) (is : IsToldRun told) (measured : Arrivals) (trace : I
 
     fits : IsTellable measured.version tree assigned work (Some told.run.workers) start (seat_of seats) chain
     fits =
-        tellable measured.version work within_limits chain listed_in tree assigned told.run.workers start (seat_of seats) named
+        run_tellable measured.version work within_limits chain listed_in tree assigned told.run.workers start (seat_of seats) named
         (λ n number. let one = manned.each n number in omega (arith, one.1, told.run.staffed.to)) told.run.staffed timely
-
-    row : ℕ → Row
-    row = row_told tree assigned work start (seat_of seats)
-
-    rows : length given.rows ≡ length measured.messages
-    rows = length-map-range_with_len (row_told tree assigned work start (seat_of seats)) 1 work.count ∙ count_in
 
     promised : Promises claim accepted.verdict
     promised =
-        promises claim (record { lengths = sym count; rows = rows; known = told.run.case.known })
-        (λ m among. tells.runs m (record { from = among.from; to = omega (arith, among.to, long) })) earlier is_tree
-        (given_of measured.version work within_limits chain listed_in tree assigned (Some told.run.workers) start (seat_of seats) fits)
+        told_promises instance is_trace count told.run.case.known is_tree (Some told.run.workers) start (seat_of seats) chain fits
         accepted.verdict accepted.is_verdict
 
     kept : IsKept claim told.run.workers
-    kept = is_kept claim told.run.workers accepted.verdict accepted.is_verdict accepted.no_fault promised refl rows
+    kept =
+        is_kept claim told.run.workers accepted.verdict accepted.is_verdict accepted.no_fault promised refl
+        (rows_told instance is_trace count told.run.case.known start (seat_of seats))
 
     -- what the rows tell
-    tells_row : (n : ℕ) → IsNumber work n → row_at given.rows n ≡ row_told tree assigned work start (seat_of seats) n
-    tells_row n number =
-        get_or-map-range_with_len (row_told tree assigned work start (seat_of seats)) 1 work.count (n - 1) n no_row
-        (omega (arith, number.from, number.to)) (omega (arith, number.from))
-
-    tells_start : (n : ℕ) → IsNumber work n → start_in claim n ≡ start n
-    tells_start n number =
-        get_or-map (λ (r : Row). r.start) (map (row_told tree assigned work start (seat_of seats)) (numbers work)) (n - 1) no_row 0
-        (omega (arith, number.from, number.to, length-map-range_with_len (row_told tree assigned work start (seat_of seats)) 1 work.count))
-        ∙ ap (λ (r : Row). r.start) (tells_row n number)
+    starts : (n : ℕ) → IsNumber work n → start_in claim n ≡ start n
+    starts = tells_start instance (Some told.run.workers) start (seat_of seats) chain
 
     same : (n : ℕ) → IsNumber work n → (start_in claim n ≡ start n) × (finish_of work (start_in claim) n ≡ finish_of work start n)
-    same n number = (tells_start n number, ap (λ s. s + work.cost n) (tells_start n number))
+    same n number = (starts n number, ap (λ s. s + work.cost n) (starts n number))
 
     told_of : IsRounded (course_run told.run) (ticks_run told.run) told.run.tick turns work (start_in claim)
     told_of =
@@ -241,7 +209,7 @@ module _ (told : ToldRun) (is : IsToldRun told) (measured : Arrivals) (trace : I
     plan_is = record {
       count = turns_of_all (course_run told.run) turns is.ran ∙ (length-timings_of told.run.case.trace.now.messages ∙ sym trace.measured.count);
       rounded = told_of;
-      workers = λ n number. ap (λ (r : Row). r.worker) (tells_row n number) ∙ seat_at n;
+      workers = λ n number. tells_worker instance (Some told.run.workers) start (seat_of seats) chain n number ∙ seat_at n;
       order = (rounding_tells (course_run told.run) (ticks_run told.run) told.run.tick turns
           (is_course told.run told.plan.now is.ran is.plan table.timings.earlier) is.ran work (start_in claim) told_of).order;
     }
@@ -249,7 +217,7 @@ module _ (told : ToldRun) (is : IsToldRun told) (measured : Arrivals) (trace : I
     as_long : length_of (work_in told.plan.now) start ≡ length_of work (start_in claim)
     as_long =
         ap (λ (ts : List Timing). length_of (work_of ts) start) timings
-        ∙ same_length work start (start_in claim) (λ n number. sym (tells_start n number))
+        ∙ same_length work start (start_in claim) (λ n number. sym (starts n number))
 
     -- the text of its lines is that of the plan that is told
     pub plan_for : (text : List ℕ)

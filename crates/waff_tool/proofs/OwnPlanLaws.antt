@@ -1,207 +1,64 @@
 -- The plans that are printed pass the check.
-use Rattle.std.proofs.Common.{◌≡◌, ◌≢◌, ℕ, ◌+◌, ◌-◌, ◌*◌, ◌<◌, ◌≤◌, inl, inr, Bool, true, false, List, [], ◌∷◌, length, get_or, slice_index, cond, count_by, Option, Some, None, IfSome, refl, sym, ap, ◌∙◌, arith, subst}
-use Rattle.std.specs.Prelude.{All, nat_le, nat_lt, ◌&&◌, sum_by, unwrap_or, option_map}
+use Rattle.std.proofs.Common.{◌≡◌, ◌≢◌, ℕ, ◌+◌, ◌-◌, ◌*◌, ◌<◌, ◌≤◌, inl, inr, Bool, true, false, List, length, cond, count_by, Option, Some, None, sym, ap, ◌∙◌, arith, subst}
+use Rattle.std.specs.Prelude.{All, nat_le, nat_lt, ◌&&◌}
 use Rattle.std.specs.List.{range_with_len}
 use Rattle.std.proofs.lemmas.Bool.{and_from, and_parts, cases_lt, cases_order, le-leb, leb-true, lt-ltb, ltb-true}
-use Rattle.std.proofs.lemmas.List.{get_or_default}
-use Rattle.std.proofs.lemmas.List.Elements.{All-head, All-tail}
-use Rattle.std.proofs.lemmas.List.FromFn.{get_or-map-range_with_len, get_or-range_with_len, length-map-range_with_len, length-range_with_len}
-use Rattle.std.proofs.lemmas.List.Sums.{sum_by-cons}
-use Rattle.std.proofs.lemmas.Option.{slice_get-get_or}
 use Rattle.std.proofs.Math.Nat.{mul-le-mul}
-use Rattle.waff_model.specs.Messages.{Arrivals, IsTrace}
-use Rattle.waff_model.proofs.TraceLemmas.{few_messages}
+use Rattle.waff_model.specs.Messages.{IsTrace}
 use Rattle.waff_model.specs.Names.{is_name}
-use Rattle.waff_model.specs.Tree.{IsTree, Node, name_of}
+use Rattle.waff_model.specs.Tree.{IsTree, Node}
 use Rattle.waff_model.specs.declared.limits.TheConstants.{MAX_COST, MAX_MESSAGES, MAX_RELEASE, MAX_THINK, MAX_TICK, MAX_WORKERS}
-use Rattle.waff_model.specs.Versions.{has_clients, has_releases}
-use Rattle.waff_model.specs.declared.message.Version.{Version}
-use Rattle.waff_model.specs.declared.message.Version.TheVariants.{V1}
+use Rattle.waff_model.specs.Versions.{has_clients}
 use Rattle.waff_read.proofs.FaultLaws.{trace_is_exact}
 use Rattle.waff_read.proofs.LimitLaws.{layout_is_within_limits, trace_is_within_limits}
 use Rattle.waff_read.proofs.NamedLaws.{affinities_are_named}
 use Rattle.waff_assign.specs.Instance.{Instance}
-use Rattle.waff_assign.specs.Order.{Relation, affinity_name, affinity_of, name_or_hyphen}
-use Rattle.waff_assign.proofs.Holding.{affinity_known}
+use Rattle.waff_assign.specs.Order.{Relation, affinity_name}
 use Rattle.waff_assign.proofs.Knowing.{are_known}
 use Rattle.waff_plan.specs.Bound.{IsWorkers, left_side, right_side}
-use Rattle.waff_plan.specs.Chain.{IsChain, IsListed, chain_cost, chain_release, gaps_after}
+use Rattle.waff_plan.specs.Chain.{IsChain, IsListed, chain_cost, chain_release}
 use Rattle.waff_plan.specs.Instances.{served_first, started_first, work_of_instance}
-use Rattle.waff_plan.specs.Obeys.{AwaitsEarlier, AwaitsNone, IsForward, Obeys}
-use Rattle.waff_plan.specs.Timetable.{timings_of, work_of_messages}
+use Rattle.waff_plan.specs.Obeys.{AwaitsEarlier, IsForward, Obeys}
+use Rattle.waff_plan.specs.Timetable.{timings_of}
 use Rattle.waff_plan.specs.Timing.{start_of}
-use Rattle.waff_plan.specs.Totals.{totals_of}
-use Rattle.waff_plan.specs.Work.{IsAmongFirst, Work, IsNumber, finish_of, gap_of, length_of, numbers, total_of}
+use Rattle.waff_plan.specs.Work.{Work, IsNumber, finish_of, length_of}
 use Rattle.waff_plan.specs.Workers.{running, runs_at}
 use Rattle.waff_plan.proofs.Linkings.{chain_is_few, chain_is_numbers}
-use Rattle.waff_plan.proofs.Longest.{finish_of-le-length_of}
-use Rattle.waff_plan.proofs.NoClients.{chain_release_is_first}
 use Rattle.waff_plan.proofs.ServingLemmas.{started_forward}
 use Rattle.waff_plan.proofs.Ticks.{sum_by-numbers-le}
-use Rattle.waff_plan.proofs.TimingLemmas.{are_timings, floor_alone, message_at}
+use Rattle.waff_plan.proofs.TimingLemmas.{are_timings}
 use Rattle.waff_list.specs.Seating.{worker_of}
 use Rattle.waff_list.specs.Seats.{ComesBefore, HoldsWorker, IsSeated}
 use Rattle.waff_list.specs.declared.rule.Rule.{Rule}
 use Rattle.waff_list.proofs.Pigeonhole.{runs_on_all}
-use Rattle.waff_list.proofs.TraceWork.{count_is, trace_is_small}
-use Rattle.waff_plan_text.specs.Given.{Given, IsGiven}
-use Rattle.waff_plan_text.specs.Laws.{IsTellable, plan_told, row_told}
+use Rattle.waff_list.proofs.TraceWork.{count_is}
+use Rattle.waff_plan_text.specs.Given.{Given}
+use Rattle.waff_plan_text.specs.Laws.{IsTellable, plan_told}
 use Rattle.waff_plan_text.specs.PlanTexts.{plan_of}
-use Rattle.waff_plan_text.specs.Rows.{IsWithinLimit}
 use Rattle.waff_plan_text.specs.Lines.{text_of}
 use Rattle.waff_plan_text.specs.Spelling.{no_worker, plan_lines, seat_of}
 use Rattle.waff_plan_text.proofs.WrittenPlans.{written_is_read}
 use Rattle.waff_check.specs.OwnPlans.{IsFoundShortWhere, claim_told}
 use Rattle.waff_check.specs.Promises.{AreOneAtATime}
-use Rattle.waff_check.specs.Verdicts.{Claim, IsClaim, IsVerdict, claim_of}
+use Rattle.waff_check.specs.Verdicts.{Claim, IsVerdict}
 use Rattle.waff_check.specs.declared.verdict.Verdict.{Verdict}
 use Rattle.waff_check.specs.declared.verdict.Verdict.TheVariants as verdict
 use Rattle.waff_check.proofs.OwnLaws.{own_plan_is_shortest, own_plan_is_within_bound}
-use Rattle.waff_check.proofs.PromiseLaws.{promises}
+use Rattle.waff_check.proofs.Tellable.{IsModest, chain_cost_within, chain_release_within, modest, tellable, told_names, told_promises, total_within}
 use Rattle.waff_inputs.specs.Inputs as inputs
 use Rattle.waff_inputs.specs.Known.{newest}
 use Rattle.waff_inputs.proofs.SameInput.{layout_tree}
 use Rattle.waff_tool.specs.CheckText.{AcceptsPlan, IsCheckText}
 use Rattle.waff_tool.specs.PlanText.{TellsLeastPlan, TellsWorkerPlan}
 use Rattle.waff_tool.specs.OwnPlans.{OwnPlanPasses, OwnWorkerPlanPasses, PassesShortWhere}
-use Rattle.waff_assign.specs.Held.{AreKnown, Held}
+use Rattle.waff_assign.specs.Held.{AreKnown}
 
--- work within the limits of traces
-record IsModest (version : Version) (work : Work) : Type 0 where
-  few : work.count ≤ MAX_MESSAGES
-  some_cost : (m : ℕ) → IsNumber work m → 1 ≤ work.cost m
-  cost : (m : ℕ) → IsNumber work m → work.cost m ≤ MAX_COST
-  floor : (m : ℕ) → IsNumber work m → work.floor m ≤ MAX_RELEASE
-  gap : (i m : ℕ) → IsNumber work m → gap_of work i m ≤ MAX_THINK
-  alone : version ≡ V1 → AwaitsNone work
-  no_release : version ≡ V1 → (m : ℕ) → IsNumber work m → work.floor m ≡ 0
-
-modest : (trace : Arrivals) → IsTrace trace → IsModest trace.version (work_of_messages trace.messages)
-modest trace is_trace =
-    let messages = trace.messages in
-    let small = trace_is_small trace is_trace in
-    let are = are_timings trace is_trace in
-    let count = count_is messages in
-    record {
-      few = omega (arith, count, few_messages trace is_trace);
-      some_cost = small.some_cost;
-      cost = small.cost;
-      floor = small.floor;
-      gap = small.gap;
-      alone = λ first. are.alone (ap has_clients first);
-      no_release = λ first m number.
-          let among : IsAmongFirst (length messages) m = record { from = number.from; to = omega (arith, number.to, count) } in
-          let message = message_at trace is_trace m among in
-          let alone = ap has_clients first in
-          floor_alone messages m among (message.no_client alone) (message.no_think alone) ∙ message.no_release (ap has_releases first);
-    }
-
--- sums of costs within the limit
-few_costs : (f : ℕ → ℕ) (xs : List ℕ) → All (λ m. f m ≤ MAX_COST) xs → sum_by f xs ≤ length xs * MAX_COST
-few_costs f [] each = omega arith
-few_costs f (x ∷ xs) each =
-    let first : f x ≤ MAX_COST = All-head (λ m. f m ≤ MAX_COST) x xs each in
-    let rest = few_costs f xs (All-tail (λ m. f m ≤ MAX_COST) x xs each) in
-    omega (arith, first, rest, sum_by-cons f x xs)
-
--- gaps within the limit
-few_gaps : (work : Work) → ((i m : ℕ) → IsNumber work m → gap_of work i m ≤ MAX_THINK) → (m : ℕ) (rest : List ℕ) → All (IsNumber work) rest
-    → gaps_after work m rest ≤ length rest * MAX_THINK
-few_gaps work gaps m [] numbers = omega arith
-few_gaps work gaps m (next ∷ rest) numbers =
-    let gap = gaps m next (All-head (IsNumber work) next rest numbers) in
-    omega (arith, gap, few_gaps work gaps next rest (All-tail (IsNumber work) next rest numbers))
-
-module _ (version : Version) (before : Relation) (work : Work) (modest : IsModest version work) (forward : IsForward before work)
-    (chain : List ℕ) (is_chain : IsChain before work chain) where
-  chain_listed : IsListed work.count chain
-  chain_listed = record {
-    each = λ k d within. let number = chain_is_numbers before work chain is_chain k d within in
-        let from = number.from in let to = number.to in record { from = from; to = to };
-    few = chain_is_few before work forward chain is_chain;
-  }
-
-  chain_cost_within : chain_cost work chain ≤ MAX_MESSAGES * MAX_COST
-  chain_cost_within =
-      let sum = few_costs work.cost chain (λ k d within. modest.cost (get_or chain k d) (chain_is_numbers before work chain is_chain k d within)) in
-      let few = chain_is_few before work forward chain is_chain in
-      omega (arith, sum, few, modest.few)
-
-  release_of : (chain : List ℕ) → All (IsNumber work) chain → chain_release work chain ≤ MAX_RELEASE + length chain * MAX_THINK
-  release_of [] numbers = omega arith
-  release_of (m ∷ rest) numbers =
-      let first = modest.floor m (All-head (IsNumber work) m rest numbers) in
-      omega (arith, first, few_gaps work modest.gap m rest (All-tail (IsNumber work) m rest numbers))
-
-  no_release_of : version ≡ V1 → (chain : List ℕ) → All (IsNumber work) chain → chain_release work chain ≡ 0
-  no_release_of first [] numbers = refl
-  no_release_of first (m ∷ rest) numbers =
-      chain_release_is_first work (modest.alone first) m rest ∙ modest.no_release first m (All-head (IsNumber work) m rest numbers)
-
-  chain_release_within : chain_release work chain ≤ MAX_RELEASE + MAX_MESSAGES * MAX_THINK
-  chain_release_within =
-      let release = release_of chain (chain_is_numbers before work chain is_chain) in
-      let few = chain_is_few before work forward chain is_chain in
-      omega (arith, release, few, modest.few)
-
-  total_within : total_of work ≤ MAX_MESSAGES * MAX_COST
-  total_within =
-      let sum = few_costs work.cost (numbers work) (λ k d within. number_cost k d within) in
-      omega (arith, sum, modest.few, length-range_with_len 1 work.count)
-    where
-      number_cost : (k d : ℕ) → k < length (numbers work) → work.cost (get_or (numbers work) k d) ≤ MAX_COST
-      number_cost k d within =
-          let count = length-range_with_len 1 work.count in
-          let is : get_or (numbers work) k d ≡ 1 + k = get_or-range_with_len 1 work.count k d (omega (arith, count)) in
-          modest.cost (get_or (numbers work) k d) (record { from = omega (arith, is); to = omega (arith, is, count) })
-
-  -- a plan that is not too long can be told
-  tellable : (tree : List Node) (assigned : List Held) (workers : Option ℕ) (start : ℕ → ℕ) (worker : ℕ → Option ℕ)
-      → ((n : ℕ) → IsNumber work n → is_name (affinity_name tree assigned n) ≡ true)
-      → ((n : ℕ) → IsNumber work n → IfSome (worker n) (λ w. w ≤ MAX_TICK)) → IfSome workers IsWorkers
-      → length_of work start ≤ MAX_TICK → (totals_of workers work start chain).left ≤ MAX_TICK → (totals_of workers work start chain).right ≤ MAX_TICK
-      → IsTellable version tree assigned work workers start worker chain
-  tellable tree assigned workers start worker named seats are short left right =
-      let cost = chain_cost_within in
-      let release = chain_release_within in
-      let total = total_within in
-      record {
-        few = modest.few;
-        rows = λ n number.
-            let ends : start n + work.cost n ≤ length_of work start = finish_of-le-length_of work start n number in
-            record {
-              named = named n number;
-              times = record { start = omega (arith, ends, short); finish = omega (arith, ends, short) };
-              worker = seats n number;
-            };
-        known = are;
-        listed = chain_listed;
-        totals = record {
-          total = omega (arith, total);
-          length = short;
-          release = omega (arith, release);
-          cost = omega (arith, cost);
-          left = left;
-          right = right;
-          no_release = λ first. no_release_of first chain (chain_is_numbers before work chain is_chain);
-        };
-      }
-
-  given_of : (tree : List Node) (assigned : List Held) (workers : Option ℕ) (start : ℕ → ℕ) (worker : ℕ → Option ℕ)
-      → IsTellable version tree assigned work workers start worker chain → IsGiven (plan_told version tree assigned work workers start worker chain)
-  given_of tree assigned workers start worker can =
-      let row = row_told tree assigned work start worker in
-      let count = length-map-range_with_len row 1 work.count in
-      record {
-        count = omega (arith, count, modest.few);
-        within = λ k d within.
-            let below : k < work.count = omega (arith, count, within) in
-            let is = get_or-map-range_with_len row 1 work.count k (k + 1) d below (omega arith) in
-            let fits = can.rows (k + 1) (record { from = omega arith; to = omega arith }) in
-            subst IsWithinLimit (sym is) fits.times;
-        workers = can.known;
-        chain = record { each = rw count chain_listed.each; few = rw count chain_listed.few };
-      }
+-- a chain is a list of messages
+chain_listed : (before : Relation) (work : Work) → IsForward before work → (chain : List ℕ) → IsChain before work chain → IsListed work.count chain
+chain_listed before work forward chain is_chain = record {
+  each = chain_is_numbers before work chain is_chain;
+  few = chain_is_few before work forward chain is_chain;
+}
 
 -- of two tests at most as many pass both as pass the first
 both_pass : (a b : Bool) → cond {A = ℕ} (a && b) 1 0 ≤ cond a 1 0
@@ -335,12 +192,6 @@ module _ (hierarchy_file trace_file : List ℕ) (instance : Instance) (accepts :
   count_in : (work_of_instance instance).count ≡ length instance.trace.messages
   count_in = count_is instance.trace.messages
 
-  -- each message runs
-  runs : (m : ℕ) → IsAmongFirst (length instance.assigned) m → 1 ≤ (work_of_instance instance).cost m
-  runs m among =
-      let to : m ≤ length instance.assigned = among.to in
-      within_limits.some_cost m (record { from = among.from; to = omega (arith, to, accepts.assignment.count, count_in) })
-
   -- the order of the chains of a plan that obeys goes forward
   forward : (start : ℕ → ℕ) → Obeys (served_first instance start) (work_of_instance instance) start
       → IsForward (started_first instance start) (work_of_instance instance)
@@ -358,22 +209,14 @@ module _ (hierarchy_file trace_file : List ℕ) (instance : Instance) (accepts :
   all_known : AreKnown instance.tree instance.assigned
   all_known = subst (λ tree. AreKnown tree instance.assigned) accepts.tree known
 
-  -- and affinities have names, which a hyphen is too
-  named_in : (o : Option ℕ) → ((a : ℕ) → o ≡ Some a → a < length accepts.layout.tree) → is_name (name_or_hyphen accepts.layout.tree o) ≡ true
-  named_in None within = refl
-  named_in (Some a) within =
-      let layout = accepts.layout in
-      let no_node : Node = record { name = []; parent = None } in
-      let there = within a refl in
-      let is : name_of layout.tree a ≡ (get_or layout.tree a no_node).name =
-      ap (λ o. unwrap_or (option_map (λ (node : Node). node.name) o) []) (slice_get-get_or layout.tree a no_node there) in
-      ap is_name is ∙ affinities_are_named hierarchy_file layout accepts.is_layout a no_node there
-
   named : (n : ℕ) → IsNumber (work_of_instance instance) n → is_name (affinity_name instance.tree instance.assigned n) ≡ true
   named n number =
-      subst (λ tree. is_name (affinity_name tree instance.assigned n) ≡ true) accepts.tree
-      (named_in (affinity_of instance.assigned n)
-      (λ a is. affinity_known accepts.layout.tree instance.assigned n a known number.from (omega (arith, number.to, count_in, accepts.assignment.count)) is))
+      let layout = accepts.layout in
+      let from : 1 ≤ n = number.from in
+      let to : n ≤ (work_of_instance instance).count = number.to in
+      told_names instance.tree instance.assigned
+      (subst (λ (tree : List Node). All (λ (node : Node). is_name node.name ≡ true) tree) accepts.tree (affinities_are_named hierarchy_file layout accepts.is_layout))
+      all_known n (record { from = from; to = omega (arith, to, count_in, accepts.assignment.count) })
 
   -- a plan that is told is read
   accepted_plan : (text : List ℕ) (workers : Option ℕ) (start : ℕ → ℕ) (worker : ℕ → Option ℕ) (chain : List ℕ) → IsFit instance workers start worker chain
@@ -390,24 +233,16 @@ module _ (hierarchy_file trace_file : List ℕ) (instance : Instance) (accepts :
 
   -- and a verdict on it is what the check prints
   checked : (text : List ℕ) (workers : Option ℕ) (start : ℕ → ℕ) (worker : ℕ → Option ℕ) (chain : List ℕ)
-      → Obeys (served_first instance start) (work_of_instance instance) start → IsChain (started_first instance start) (work_of_instance instance) chain
       → IsFit instance workers start worker chain → AcceptsPlan hierarchy_file trace_file text instance (plan_in instance workers start worker chain)
       → (v : Verdict) → IsVerdict (claim_told instance workers start worker chain) v → IsCheckText hierarchy_file trace_file text v
-  checked text workers start worker chain obeys is_chain can read v is =
-      let before = started_first instance start in
-      let work = work_of_instance instance in
-      let plan = plan_in instance workers start worker chain in
-      let claim = claim_of instance plan in
-      let given = given_of instance.trace.version before work within_limits (forward start obeys) chain is_chain instance.tree instance.assigned workers start worker can in
-      let rows = length-map-range_with_len (row_told instance.tree instance.assigned work start worker) 1 work.count ∙ count_in in
-      let is_claim : IsClaim claim = record { lengths = sym accepts.assignment.count; rows = rows; known = all_known } in
+  checked text workers start worker chain can read v is =
       let tree = subst IsTree accepts.tree (layout_tree hierarchy_file accepts.layout accepts.is_layout) in
       record {
         instance = instance;
-        given = plan;
+        given = plan_in instance workers start worker chain;
         accepts = read;
         verdict = is;
-        promises = promises claim is_claim runs earlier tree given v is;
+        promises = told_promises instance is_trace accepts.assignment.count all_known tree workers start worker chain can v is;
       }
 
   -- that of a plan without workers
@@ -415,15 +250,13 @@ module _ (hierarchy_file trace_file : List ℕ) (instance : Instance) (accepts :
   own_plan_fits text told =
       let work = work_of_instance instance in
       let start = start_of told.starts in
-      let before = started_first instance start in
-      let onward = forward start told.certified.least.obeys in
-      let is_chain = told.certified.is_chain in
+      let listed = chain_listed (started_first instance start) work (forward start told.certified.least.obeys) told.chain told.certified.is_chain in
       let version = instance.trace.version in
-      let cost = chain_cost_within version before work within_limits onward told.chain is_chain in
-      let release = chain_release_within version before work within_limits onward told.chain is_chain in
+      let cost = chain_cost_within version work within_limits told.chain listed in
+      let release = chain_release_within version work within_limits told.chain listed in
       let as_long = told.certified.as_long in
       let short : length_of work start ≤ MAX_TICK = omega (arith, as_long, cost, release) in
-      tellable version before work within_limits onward told.chain is_chain instance.tree instance.assigned None start no_worker
+      tellable version work within_limits told.chain listed instance.tree instance.assigned None start no_worker
       named (λ n number. tt) tt short short (omega (arith, cost, release))
 
   pub own_plan_read : (text : List ℕ) (told : TellsLeastPlan instance text)
@@ -441,13 +274,11 @@ module _ (hierarchy_file trace_file : List ℕ) (instance : Instance) (accepts :
   own_worker_plan_fits rule k text workers told =
       let work = work_of_instance instance in
       let start = start_of told.starts in
-      let before = started_first instance start in
-      let onward = forward start told.bounded.obeys in
-      let is_chain = told.bounded.is_chain in
+      let listed = chain_listed (started_first instance start) work (forward start told.bounded.obeys) told.chain told.bounded.is_chain in
       let version = instance.trace.version in
-      let cost = chain_cost_within version before work within_limits onward told.chain is_chain in
-      let release = chain_release_within version before work within_limits onward told.chain is_chain in
-      let total = total_within version before work within_limits onward told.chain is_chain in
+      let cost = chain_cost_within version work within_limits told.chain listed in
+      let release = chain_release_within version work within_limits told.chain listed in
+      let total = total_within version work within_limits in
       let from : 1 ≤ k = workers.from in
       let to : k ≤ MAX_WORKERS = workers.to in
       let releases : k * chain_release work told.chain ≤ MAX_WORKERS * (MAX_RELEASE + MAX_MESSAGES * MAX_THINK) = mul-le-mul to release in
@@ -459,7 +290,7 @@ module _ (hierarchy_file trace_file : List ℕ) (instance : Instance) (accepts :
       let once : 1 * length_of work start ≤ k * length_of work start = mul-le-mul from (omega arith) in
       let short : length_of work start ≤ MAX_TICK = omega (arith, once, left) in
       let crew = crew_of rule k text told in
-      tellable version before work within_limits onward told.chain is_chain instance.tree instance.assigned (Some k) start (seat_of told.workers)
+      tellable version work within_limits told.chain listed instance.tree instance.assigned (Some k) start (seat_of told.workers)
       named (λ n number. let one = crew.each n number in let last = one.1 in omega (arith, to, last)) workers short left right
 
   pub own_worker_plan_read : (rule : Rule) (k : ℕ) (text : List ℕ) → IsWorkers k → (told : TellsWorkerPlan rule k instance text)
@@ -475,7 +306,7 @@ own_plan_passes hierarchy_file trace_file text p =
     let obeys = told.certified.least.obeys in
     let is_chain = told.certified.is_chain in
     short_passes (has_clients i.trace.version) (claim_told i None start no_worker told.chain) hierarchy_file trace_file text
-    (checked hierarchy_file trace_file i p.accepts text None start no_worker told.chain obeys is_chain
+    (checked hierarchy_file trace_file i p.accepts text None start no_worker told.chain
     (own_plan_fits hierarchy_file trace_file i p.accepts text told) (own_plan_read hierarchy_file trace_file i p.accepts text told))
     (own_plan_is_shortest i start told.chain p.accepts.assignment.count (earlier hierarchy_file trace_file i p.accepts) obeys is_chain told.certified.as_long)
 
@@ -486,7 +317,7 @@ own_worker_plan_passes rule hierarchy_file trace_file k text workers p =
     let start = start_of told.starts in
     let obeys = told.bounded.obeys in
     let is_chain = told.bounded.is_chain in
-    let prints = checked hierarchy_file trace_file i p.accepts text (Some k) start (seat_of told.workers) told.chain obeys is_chain
+    let prints = checked hierarchy_file trace_file i p.accepts text (Some k) start (seat_of told.workers) told.chain
     (own_worker_plan_fits hierarchy_file trace_file i p.accepts rule k text workers told) (own_worker_plan_read hierarchy_file trace_file i p.accepts rule k text workers told) in
     elim (own_plan_is_within_bound i k start (seat_of told.workers) told.chain p.accepts.assignment.count (earlier hierarchy_file trace_file i p.accepts)
     (record { obeys = obeys; within = told.bounded.at_once }) (crew_of hierarchy_file trace_file i p.accepts rule k text told) is_chain told.bounded.bound) [
