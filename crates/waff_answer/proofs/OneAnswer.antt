@@ -14,7 +14,7 @@ use Rattle.waff_tool.proofs.TextUniqueness.{compare_text_is_one}
 use Rattle.waff_tool.proofs.ToldTexts.{told_text_is_one}
 use Rattle.waff_cli.specs.declared.words.Asked.{Asked}
 use Rattle.waff_cli.specs.declared.words.Asked.TheVariants as asked
-use Rattle.waff_answer.specs.Answers.{first, picture_for, second, third}
+use Rattle.waff_answer.specs.Answers.{first, second, third}
 use Rattle.waff_answer.specs.Unique.{AnswerIsOne}
 
 pub answer_is_one : (asked : Asked) (files : List (List ℕ)) → AnswerIsOne asked files
@@ -34,8 +34,8 @@ answer_is_one asked.Rate files status more text other p q =
       p.2 ∙ ap status_after same ∙ sym q.2,
       rate_text_is_one (first files) (second files) (third files) p.0 q.0 text other p.1 q.1,
     )
-answer_is_one (asked.Draw drawing part) files status more text other p q =
-    (p.0 ∙ sym q.0, draw_text_is_one (first files) (second files) (third files) (picture_for drawing) part text other p.1 q.1)
+answer_is_one (asked.Draw picture part) files status more text other p q =
+    (p.0 ∙ sym q.0, draw_text_is_one (first files) (second files) (third files) picture part text other p.1 q.1)
 answer_is_one (asked.Rank k rule) files status more text other p q =
     (p.0 ∙ sym q.0, rank_text_is_one rule (drop 1 files) (first files) k text other p.1 q.1)
 answer_is_one asked.Explain files status more text other p q = (

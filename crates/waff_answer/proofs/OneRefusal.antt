@@ -25,7 +25,7 @@ pub asked_refusal_is_one : (asked : Asked) (files : List (List ℕ)) → Refusal
 asked_refusal_is_one asked.PlanOfInput files = one_refusal (files_of (before_mark (first files)) (after_mark (first files)))
 asked_refusal_is_one asked.Check files = check_refusal_is_one (first files) (second files) (third files)
 asked_refusal_is_one asked.Rate files = check_refusal_is_one (first files) (second files) (third files)
-asked_refusal_is_one (asked.Draw drawing part) files = check_refusal_is_one (first files) (second files) (third files)
+asked_refusal_is_one (asked.Draw picture part) files = check_refusal_is_one (first files) (second files) (third files)
 asked_refusal_is_one (asked.Replay workers) files = replay_refusal_is_one (first files) (second files)
 asked_refusal_is_one (asked.Compare k) files = comparison_refusal_is_one (first files) (second files) (third files)
 asked_refusal_is_one (asked.Rank k rule) files = rank_refusal_is_one (drop 1 files) (first files)
@@ -39,7 +39,7 @@ answered_is_not_refused asked.Check files status text error told =
     checked_is_not_refused (first files) (second files) (third files) told.0 error told.1
 answered_is_not_refused asked.Rate files status text error told =
     checked_is_not_refused (first files) (second files) (third files) told.0 error told.1.checked
-answered_is_not_refused (asked.Draw drawing part) files status text error told =
+answered_is_not_refused (asked.Draw picture part) files status text error told =
     accepted_plan_is_not_refused (first files) (second files) (third files) told.1.instance told.1.given error told.1.accepts
 answered_is_not_refused (asked.Replay workers) files status text error told =
     replayed_is_not_refused (first files) (second files) text error told.1

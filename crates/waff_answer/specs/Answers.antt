@@ -15,13 +15,9 @@ use Rattle.waff_tool.specs.Ranks.{IsRankText, RefusesRank, file_at}
 use Rattle.waff_tool.specs.Rate.{IsRateText}
 use Rattle.waff_tool.specs.ReplayText.{IsReplayText, RefusesReplay}
 use Rattle.waff_tool.specs.Told.{Tells}
-use Rattle.waff_tool.specs.declared.draws.Picture.{Picture}
-use Rattle.waff_tool.specs.declared.draws.Picture.TheVariants as picture
 use Rattle.waff_tool.specs.declared.explains.Explained.{Explained}
 use Rattle.waff_cli.specs.declared.words.Asked.{Asked}
 use Rattle.waff_cli.specs.declared.words.Asked.TheVariants as asked
-use Rattle.waff_cli.specs.declared.words.Drawing.{Drawing}
-use Rattle.waff_cli.specs.declared.words.Drawing.TheVariants as drawing
 
 -- the bytes of files
 abbrev pub bytes_of : List (Vec ℕ Global) → List (List ℕ)
@@ -36,11 +32,6 @@ second files = file_at files 1
 
 abbrev pub third : List (List ℕ) → List ℕ
 third files = file_at files 2
-
--- the picture that is asked for
-abbrev pub picture_for : Drawing → Picture
-picture_for drawing.Svg = picture.Svg
-picture_for drawing.Events = picture.TraceEvents
 
 -- the text is an answer to what is asked of the bytes of these files, and this is the exit status
 abbrev pub Answers : Asked → List (List ℕ) → ℕ → List ℕ → Type 0
@@ -59,9 +50,9 @@ Answers (asked.Compare k) files status text =
 Answers asked.Rate files status text =
     (v : Verdict) × IsRateText (first files) (second files) (third files) v text
     × (status ≡ status_after v)
-Answers (asked.Draw drawing part) files status text =
+Answers (asked.Draw picture part) files status text =
     (status ≡ 0)
-    × IsDrawText (first files) (second files) (third files) (picture_for drawing) part text
+    × IsDrawText (first files) (second files) (third files) picture part text
 Answers (asked.Rank k rule) files status text =
     (status ≡ 0) × IsRankText rule (drop 1 files) (first files) k text
 Answers asked.Explain files status text =
@@ -75,7 +66,7 @@ RefusesAsked asked.PlanOfInput files error =
     Refuses (before_mark (first files)) (after_mark (first files)) error
 RefusesAsked asked.Check files error = RefusesCheck (first files) (second files) (third files) error
 RefusesAsked asked.Rate files error = RefusesCheck (first files) (second files) (third files) error
-RefusesAsked (asked.Draw drawing part) files error =
+RefusesAsked (asked.Draw picture part) files error =
     RefusesCheck (first files) (second files) (third files) error
 RefusesAsked (asked.Replay workers) files error = RefusesReplay (first files) (second files) error
 RefusesAsked (asked.Compare k) files error =

@@ -4,18 +4,17 @@ ghost use Rattle.waff_inputs.specs.Deliveries.{Delivers};
 ghost use Rattle.waff_tool.specs.CheckText.{status_after};
 ghost use Rattle.waff_tool.specs.Explanations.{status_explained};
 ghost use Rattle.waff_tool.specs.Ranks.{file_at};
-ghost use Rattle.waff_answer.specs.Answers.{Answers, RefusesAsked, bytes_of, picture_for};
+ghost use Rattle.waff_answer.specs.Answers.{Answers, RefusesAsked, bytes_of};
 
 use std::alloc::Global;
 use std::io::Write;
 use std::sync::Wait;
 use std::thread::Threads;
 use waff_check::Verdict;
-use waff_cli::{Asked, Drawing, Question, thread_count};
+use waff_cli::{Asked, Question, thread_count};
 use waff_tool::{
-    Explained, Picture, Rule, Told, ToolError, check_text, compare_text_by_threads, draw_text,
-    explain_text, explained_status, rank_text, rate_text, replay_text, split_input, told_text,
-    verdict_status,
+    Explained, Rule, Told, ToolError, check_text, compare_text_by_threads, draw_text, explain_text,
+    explained_status, rank_text, rate_text, replay_text, split_input, told_text, verdict_status,
 };
 
 /// Writes the answer to the question, and gives the exit status.
@@ -50,9 +49,8 @@ pub fn print<R: Threads + Wait + Sync, W: Write>(
             printed(compare_text_by_threads(rt, alloc, first, second, third, *k, out))
         }
         Asked::Rate => judged(rate_text(rt, alloc, first, second, third, out)),
-        Asked::Draw(drawing, part) => {
-            let picture = picture_of(*drawing);
-            printed(draw_text(rt, alloc, first, second, third, picture, *part, out))
+        Asked::Draw(picture, part) => {
+            printed(draw_text(rt, alloc, first, second, third, *picture, *part, out))
         }
         Asked::Rank(k, rule) => {
             let hierarchies = &files[1..];
@@ -117,15 +115,5 @@ fn file_given(files: &[Vec<u8>], at: usize) -> Option<&[u8]>
     match files.get(at) {
         Some(bytes) => Some(bytes.as_slice()),
         None => None,
-    }
-}
-
-/// The picture that is asked for.
-fn picture_of(drawing: Drawing) -> Picture
-    ensures { result ≡ picture_for drawing }
-{
-    match drawing {
-        Drawing::Svg => Picture::Svg,
-        Drawing::Events => Picture::TraceEvents,
     }
 }

@@ -12,10 +12,10 @@ use Rattle.waff_figures.specs.declared.told.Told.TheVariants as told
 use Rattle.waff_list.specs.declared.rule.Rule.{Rule}
 use Rattle.waff_cli.specs.Unique.{AskedIsOne, IsSameAsked}
 use Rattle.waff_model.specs.declared.locking.Locking.{Locking}
-use Rattle.waff_cli.specs.Words.{IsAsked, columns_in, drawing_in, grouping_in, label_in, locking_in, number_in, rule_in, steps_in, workers_in}
+use Rattle.waff_cli.specs.Words.{IsAsked, columns_in, picture_in, grouping_in, label_in, locking_in, number_in, rule_in, steps_in, workers_in}
 use Rattle.waff_cli.specs.declared.words.Asked.{Asked}
 use Rattle.waff_cli.specs.declared.words.Asked.TheVariants as asked
-use Rattle.waff_cli.specs.declared.words.Drawing.{Drawing}
+use Rattle.waff_draw.specs.declared.picture.Picture.{Picture}
 
 -- what the words of `waits` ask, by whether a number of messages is given
 abbrev waits_for : Option ℕ → List Row → Rule → Told
@@ -38,7 +38,7 @@ asked_for given part command rows =
     else (if bytes_eq command (codes "replay") then Some (asked.Replay (workers_in rows))
     else (if bytes_eq command (codes "compare") then option_map (λ (k : ℕ). asked.Compare k) (workers_in rows)
     else (if bytes_eq command (codes "rate") then Some asked.Rate
-    else (if bytes_eq command (codes "draw") then option_and_then (λ (drawing : Drawing). option_map (λ (some : Part). asked.Draw drawing some) part) (drawing_in rows)
+    else (if bytes_eq command (codes "draw") then option_and_then (λ (picture : Picture). option_map (λ (some : Part). asked.Draw picture some) part) (picture_in rows)
     else (if bytes_eq command (codes "rank") then option_and_then (λ (k : ℕ). option_map (λ (rule : Rule). asked.Rank k rule) (rule_in rows)) (workers_in rows)
     else (if bytes_eq command (codes "explain") then Some asked.Explain
     else None)))))))))))))))
@@ -98,8 +98,8 @@ module _ (rows : List Row) where
   stands command (asked.Compare k) p =
       by None None command (codes "compare") (asked.Compare k) p.0 (sym (ap (option_map (λ (k : ℕ). asked.Compare k)) p.1))
   stands command asked.Rate p = by None None command (codes "rate") asked.Rate p (refl)
-  stands command (asked.Draw drawing some) p =
-      by None (Some some) command (codes "draw") (asked.Draw drawing some) p.0 (ap (option_and_then (λ (drawing : Drawing). option_map (λ (one : Part). asked.Draw drawing one) (Some some))) p.1)
+  stands command (asked.Draw picture some) p =
+      by None (Some some) command (codes "draw") (asked.Draw picture some) p.0 (ap (option_and_then (λ (picture : Picture). option_map (λ (one : Part). asked.Draw picture one) (Some some))) p.1)
   stands command (asked.Rank k rule) p =
       by None None command (codes "rank") (asked.Rank k rule) p.0 (sym (ap (option_and_then (λ (k : ℕ). option_map (λ (rule : Rule). asked.Rank k rule) (rule_in rows))) p.1) ∙ ap (option_map (λ (rule : Rule). asked.Rank k rule)) p.2)
   stands command asked.Explain p = by None None command (codes "explain") asked.Explain p (refl)
@@ -157,15 +157,15 @@ module _ (rows : List Row) where
         moved (asked.Compare k) (asked.Compare k) (ap (option_map (λ (k : ℕ). asked.Compare k)) p.1 ∙ at given part command (codes "compare") p.0 is) refl
     same given part command q (asked.Rank k rule) p is =
         moved (asked.Rank k rule) (asked.Rank k rule) (sym (ap (option_map (λ (rule : Rule). asked.Rank k rule)) p.2) ∙ ap (option_and_then (λ (k : ℕ). option_map (λ (rule : Rule). asked.Rank k rule) (rule_in rows))) p.1 ∙ at given part command (codes "rank") p.0 is) refl
-    same given None command q (asked.Draw drawing mine) p is =
+    same given None command q (asked.Draw picture mine) p is =
         let there = at given None command (codes "draw") p.0 is in
-        let bad : None ≡ Some other = sym (ap (option_and_then (λ (drawing : Drawing). option_map (λ (some : Part). asked.Draw drawing some) None)) p.1) ∙ there in
+        let bad : None ≡ Some other = sym (ap (option_and_then (λ (picture : Picture). option_map (λ (some : Part). asked.Draw picture some) None)) p.1) ∙ there in
         absurd (cc)
-    same given (Some some) command q (asked.Draw drawing mine) p is =
+    same given (Some some) command q (asked.Draw picture mine) p is =
         let there = at given (Some some) command (codes "draw") p.0 is in
-        let equal : Some (asked.Draw drawing some) ≡ Some other = sym (ap (option_and_then (λ (drawing : Drawing). option_map (λ (one : Part). asked.Draw drawing one) (Some some))) p.1) ∙ there in
-        let its = kept command (asked.Draw drawing some) q equal in
-        moved (asked.Draw drawing mine) (asked.Draw drawing some) equal (
+        let equal : Some (asked.Draw picture some) ≡ Some other = sym (ap (option_and_then (λ (picture : Picture). option_map (λ (one : Part). asked.Draw picture one) (Some some))) p.1) ∙ there in
+        let its = kept command (asked.Draw picture some) q equal in
+        moved (asked.Draw picture mine) (asked.Draw picture some) equal (
           refl,
           ap (λ o. unwrap_or o mine.from) (p.2.begins ∙ sym its.2.begins),
           p.2.ends ∙ sym its.2.ends,

@@ -21,8 +21,8 @@ IsSameTold what other = what ≡ other
 -- the same is asked
 abbrev pub IsSameAsked : Asked → Asked → Type 0
 IsSameAsked (asked.Told what) (asked.Told other) = IsSameTold what other
-IsSameAsked (asked.Draw drawing part) (asked.Draw other some) =
-    (drawing ≡ other) × (part.from ≡ some.from) × (part.to ≡ some.to)
+IsSameAsked (asked.Draw picture part) (asked.Draw other some) =
+    (picture ≡ other) × (part.from ≡ some.from) × (part.to ≡ some.to)
 IsSameAsked what other = what ≡ other
 
 -- what was found asks for the same each time

@@ -26,8 +26,8 @@ use Rattle.waff_cli.specs.declared.run_words.TheConstants.{CELL}
 use Rattle.waff_cli.specs.declared.tick.TheConstants.{TICK}
 use Rattle.waff_cli.specs.declared.words.Asked.{Asked}
 use Rattle.waff_cli.specs.declared.words.Asked.TheVariants as asked
-use Rattle.waff_cli.specs.declared.words.Drawing.{Drawing}
-use Rattle.waff_cli.specs.declared.words.Drawing.TheVariants as drawing
+use Rattle.waff_draw.specs.declared.picture.Picture.{Picture}
+use Rattle.waff_draw.specs.declared.picture.Picture.TheVariants as picture
 
 -- what was found of the words of one command: for each option and file its words
 abbrev pub rows_in : ArgMatches → List Row
@@ -40,10 +40,10 @@ rule_named word =
     else (if bytes_eq word (codes "longest") then Some rule.Longest else None)
 
 -- the picture that a word names
-abbrev pub drawing_named : List ℕ → Option Drawing
-drawing_named word =
-    if bytes_eq word (codes "svg") then Some drawing.Svg
-    else (if bytes_eq word (codes "events") then Some drawing.Events else None)
+abbrev pub picture_named : List ℕ → Option Picture
+picture_named word =
+    if bytes_eq word (codes "svg") then Some picture.Svg
+    else (if bytes_eq word (codes "events") then Some picture.Events else None)
 
 -- the label of messages, by whether `--names` is given and whether `--clients` is
 abbrev pub label_for : Bool → Bool → Option Label
@@ -83,8 +83,8 @@ is_set rows id = option_map_or (λ word. bytes_eq word (codes "true")) (first_of
 abbrev pub rule_in : List Row → Option Rule
 rule_in rows = option_and_then rule_named (first_of (codes "rule") rows)
 
-abbrev pub drawing_in : List Row → Option Drawing
-drawing_in rows = option_and_then drawing_named (first_of (codes "as") rows)
+abbrev pub picture_in : List Row → Option Picture
+picture_in rows = option_and_then picture_named (first_of (codes "as") rows)
 
 abbrev pub label_in : List Row → Option Label
 label_in rows = label_for (is_set rows (codes "names")) (is_set rows (codes "clients"))
@@ -147,8 +147,8 @@ IsAsked command rows (asked.Replay workers) =
 IsAsked command rows (asked.Compare k) =
     (command ≡ codes "compare") × (Some k ≡ workers_in rows)
 IsAsked command rows asked.Rate = command ≡ codes "rate"
-IsAsked command rows (asked.Draw drawing part) =
-    (command ≡ codes "draw") × (drawing_in rows ≡ Some drawing) × IsPartGiven rows part
+IsAsked command rows (asked.Draw picture part) =
+    (command ≡ codes "draw") × (picture_in rows ≡ Some picture) × IsPartGiven rows part
 IsAsked command rows (asked.Rank k rule) =
     (command ≡ codes "rank") × (Some k ≡ workers_in rows) × (rule_in rows ≡ Some rule)
 IsAsked command rows asked.Explain = command ≡ codes "explain"

@@ -6,9 +6,10 @@ ghost use Rattle.waff_cli.specs.Advice.{advice_text};
 
 use crate::task::{Question, RunTask};
 use crate::tips::{NO_MEMORY, NOT_WRITTEN};
-use crate::words::{Asked, Drawing};
+use crate::words::Asked;
 use std::alloc::{AllocError, Global};
 use std::thread::Threads;
+use waff_draw::Picture;
 use waff_inputs::{ToolError, accept_by_threads};
 use waff_model::limits::MAX_CELLS;
 
@@ -165,7 +166,7 @@ pub fn advice_behind(question: &Question) -> Advice
     if question.names.len() == 0 {
         return Advice::Nothing;
     }
-    if let Asked::Draw(Drawing::Svg, part) = &question.asked {
+    if let Asked::Draw(Picture::Svg, part) = &question.asked {
         let is_whole = part.from == 0 && part.to.is_none();
         if is_whole && count_lines(file(question.files.as_slice(), 2)) > MANY_LINES {
             return Advice::Line(MANY_BARS);

@@ -48,4 +48,4 @@ pub use task::{Question, RunTask, Task};
 pub use threads::thread_count;
 pub use tick::Tick;
 pub use unique::{asked_is_one, run_is_one};
-pub use words::{Asked, Drawing};
+pub use words::Asked;

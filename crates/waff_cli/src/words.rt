@@ -5,7 +5,7 @@ ghost use Rattle.waff_cli.specs.Requests as requests;
 ghost use Rattle.waff_cli.specs.Requests.{IsWithinLimits};
 ghost use Rattle.waff_cli.specs.Tasks.{IsWanted};
 ghost use Rattle.waff_cli.specs.Words as asks;
-ghost use Rattle.waff_cli.specs.Words.{IsAsked, IsPartGiven, columns_in, drawing_in};
+ghost use Rattle.waff_cli.specs.Words.{IsAsked, IsPartGiven, columns_in, picture_in};
 ghost use Rattle.waff_cli.specs.Words.{grouping_in, label_in, locking_in, rows_in, rule_in, swept_in, workers_in};
 
 use crate::commands::{FILE_WORDS, MAX_STEPS, MAX_SWEPT, MAX_WORST, STEPS};
@@ -17,7 +17,7 @@ use crate::run_words::run_words;
 use clap::ArgMatches;
 use std::alloc::{AllocError, Global};
 use waff_core::limits::MAX_SEATS;
-use waff_draw::Part;
+use waff_draw::{Part, Picture};
 use waff_figures::{Columns, Grouping, Label, Told};
 use waff_inputs::MAX_RANKED;
 use waff_list::Rule;
@@ -42,21 +42,13 @@ pub enum Asked {
     /// How good the plan is.
     Rate,
     /// This part of the plan drawn as this picture.
-    Draw(Drawing, Part),
+    Draw(Picture, Part),
     /// How several hierarchies serve the trace, for this number of workers by this rule. The trace
     /// comes first.
     Rank(Workers, Rule),
     /// The first fault, or the verdict, of a hierarchy, of a trace where there is one, and of a
     /// plan where there is one.
     Explain,
-}
-
-/// As what a plan is drawn.
-#[derive(Clone, Copy)]
-pub enum Drawing {
-    Svg,
-    /// Events, for a viewer of traces.
-    Events,
 }
 
 /// What the words ask for of which this was found.
@@ -337,22 +329,22 @@ fn number_within(found: &ArgMatches<'_>, id: &str, most: u32) -> Result<Option<u
 }
 
 /// As what the plan is drawn.
-fn drawn_as(found: &ArgMatches<'_>) -> Result<Drawing, Refusal>
-    ensures { IfOk result (λ drawing. drawing_in (rows_in found.now) ≡ Some drawing) }
+fn drawn_as(found: &ArgMatches<'_>) -> Result<Picture, Refusal>
+    ensures { IfOk result (λ picture. picture_in (rows_in found.now) ≡ Some picture) }
 {
     match word_in(found, "as") {
-        Some(word) => drawing_named(word).ok_or(Refusal::NoWords),
+        Some(word) => picture_named(word).ok_or(Refusal::NoWords),
         None => Err(Refusal::NoWords),
     }
 }
 
 /// The picture that this word names.
-fn drawing_named(word: &str) -> Option<Drawing>
-    ensures { result ≡ asks.drawing_named word.now }
+fn picture_named(word: &str) -> Option<Picture>
+    ensures { result ≡ asks.picture_named word.now }
 {
     match word {
-        "svg" => Some(Drawing::Svg),
-        "events" => Some(Drawing::Events),
+        "svg" => Some(Picture::Svg),
+        "events" => Some(Picture::Events),
         _ => None,
     }
 }

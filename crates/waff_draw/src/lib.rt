@@ -7,7 +7,7 @@
 //! - `loose`: the lanes of messages that have no affinity, named `-`.
 //! - `parts`: the ticks that are shown; `chart`: what a picture shows, made ready for drawing.
 //! - `colours`: which names have a colour; `axis`: round numbers of ticks; `xml`: names in a document of markup.
-//! - `svg`: the text of the picture; `bars`: its bars; `runs`: the outlines of the chain; `frame`: where
+//! - `picture`: as what a plan is drawn; `svg`: the text of the picture; `bars`: its bars; `runs`: the outlines of the chain; `frame`: where
 //!   what is around them stands; `pieces`: what all are made of.
 //! - `events`: the same as events of threads, for a viewer of traces.
 //!
@@ -32,6 +32,7 @@ mod laws;
 mod loose;
 mod marks;
 mod parts;
+mod picture;
 mod pieces;
 mod runs;
 mod svg;
@@ -43,4 +44,5 @@ pub use laws::{
     row_is_of_lane, shows_ticks_in_part, whole_shows_all,
 };
 pub use parts::Part;
+pub use picture::Picture;
 pub use svg::svg_text;

@@ -17,7 +17,7 @@ use Rattle.waff_inputs.proofs.SameInput.{same_input, same_ok, same_trace}
 use Rattle.waff_tool.specs.CheckText.{AcceptsPlan, IsCheckText}
 use Rattle.waff_tool.specs.DrawText.{IsDrawText, picture_of}
 use Rattle.waff_tool.specs.ReplayText.{IsReplayText, state_after, state_lines}
-use Rattle.waff_tool.specs.declared.draws.Picture.{Picture}
+use Rattle.waff_draw.specs.declared.picture.Picture.{Picture}
 
 -- what holds of the plan of a text holds of one plan
 pub same_given : (P : Instance → Given → Type 0) (hierarchy_file trace_file plan_file : List ℕ) (instance other : Instance) (given more : Given)

@@ -19,8 +19,8 @@ use Rattle.waff_draw.specs.declared.parts.Part.{Part}
 use Rattle.waff_figures.specs.declared.figures.Figures.{Figures}
 use Rattle.waff_tool.specs.DrawText.{picture_of}
 use Rattle.waff_tool.specs.Rate.{IsRated, rated_lines}
-use Rattle.waff_tool.specs.declared.draws.Picture.{Picture}
-use Rattle.waff_tool.specs.declared.draws.Picture.TheVariants as picture
+use Rattle.waff_draw.specs.declared.picture.Picture.{Picture}
+use Rattle.waff_draw.specs.declared.picture.Picture.TheVariants as picture
 use Rattle.waff_tool.proofs.EarlierReadings.{Both, down, given_in, plan_read_same, up}
 use Rattle.waff_tool.proofs.EarlierTexts.{instance_in, rated}
 use Rattle.waff_assign.specs.Held.{Held}
@@ -114,9 +114,9 @@ module _ (tree : List Node) (assigned : List Held) (sizes : List ℕ) (messages 
   scenes_same : {v w : Version} → Both v w → (picture : Picture) (given : Given) (part : Part)
       → picture_of picture (scene_of (in_version v) given part) ≡ picture_of picture (scene_of (in_version w) (given_in w given) part)
   scenes_same down picture.Svg given part = refl
-  scenes_same down picture.TraceEvents given part = refl
+  scenes_same down picture.Events given part = refl
   scenes_same up picture.Svg given part = refl
-  scenes_same up picture.TraceEvents given part = refl
+  scenes_same up picture.Events given part = refl
 
   pub drawn_in : {v w : Version} → Both v w → (plan_file : List ℕ) (picture : Picture) (part : Part) (text : List ℕ)
       → IsDrawnIn (in_version v) plan_file picture part text → IsDrawnIn (in_version w) plan_file picture part text

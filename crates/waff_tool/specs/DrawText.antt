@@ -7,13 +7,13 @@ use Rattle.waff_draw.specs.Scene.{Scene, scene_of}
 use Rattle.waff_draw.specs.Svg.{svg_text}
 use Rattle.waff_draw.specs.declared.parts.Part.{Part}
 use Rattle.waff_tool.specs.CheckText.{AcceptsPlan}
-use Rattle.waff_tool.specs.declared.draws.Picture.{Picture}
-use Rattle.waff_tool.specs.declared.draws.Picture.TheVariants as picture
+use Rattle.waff_draw.specs.declared.picture.Picture.{Picture}
+use Rattle.waff_draw.specs.declared.picture.Picture.TheVariants as picture
 
 -- a scene as what it is drawn
 abbrev pub picture_of : Picture → Scene → List ℕ
 picture_of picture.Svg scene = svg_text scene
-picture_of picture.TraceEvents scene = events_text scene
+picture_of picture.Events scene = events_text scene
 
 -- the picture of a part of the plan of a text
 pub record IsDrawText (hierarchy_file trace_file plan_file : List ℕ)

@@ -22,7 +22,7 @@ use Rattle.waff_tool.specs.Ranks.{IsRankText}
 use Rattle.waff_tool.specs.Rate.{IsRateText}
 use Rattle.waff_tool.specs.ReplayText.{IsReplayText}
 use Rattle.waff_tool.specs.Told.{Tells}
-use Rattle.waff_tool.specs.declared.draws.Picture.{Picture}
+use Rattle.waff_draw.specs.declared.picture.Picture.{Picture}
 
 -- bytes that spell a trace of one version, and bytes that spell the same messages as a trace of another
 pub record SpellSame (version other : Version) (spaces : List Space) (file other_file : List ℕ)

@@ -16,15 +16,8 @@ use std::io::Write;
 use std::thread::Threads;
 use waff_assign::Case;
 use waff_check::GivenPlan;
-use waff_draw::{Part, events_text, svg_text};
+use waff_draw::{Part, Picture, events_text, svg_text};
 use waff_inputs::{ToolError, deliver};
-
-/// As what a plan is drawn: a document in SVG for a browser, or events for a viewer of traces.
-#[derive(Clone, Copy)]
-pub enum Picture {
-    Svg,
-    TraceEvents,
-}
 
 /// Writes the picture of this part of the plan that the text gives for the trace under the
 /// hierarchy, whether or not the plan obeys. Nothing is written before the whole picture is made.
@@ -106,7 +99,7 @@ fn pictured(
 {
     match picture {
         Picture::Svg => svg_text(alloc, case, given, part),
-        Picture::TraceEvents => events_text(alloc, case, given, part),
+        Picture::Events => events_text(alloc, case, given, part),
     }
 }
 

@@ -56,7 +56,7 @@ mod why;
 pub use assigns::assign_text;
 pub use checks::{check_text, verdict_status};
 pub use comparison::{compare_text, compare_text_by_threads};
-pub use draws::{Picture, draw_text};
+pub use draws::draw_text;
 pub use explains::{Explained, explain_text, explained_status, lines_are_no_first_lines};
 pub use plans::plan_text;
 pub use ranks::rank_text;

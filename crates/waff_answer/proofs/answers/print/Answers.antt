@@ -13,7 +13,7 @@ use Rattle.waff_tool.specs.Rate.{IsRateText}
 use Rattle.waff_tool.specs.ReplayText.{IsReplayText}
 use Rattle.waff_tool.specs.Told.{Tells}
 use Rattle.waff_cli.specs.declared.words.Asked.TheVariants as asked
-use Rattle.waff_answer.specs.Answers.{bytes_of, first, picture_for, second, third}
+use Rattle.waff_answer.specs.Answers.{bytes_of, first, second, third}
 use Rattle.waff_answer.proofs.Answering.{answers_as, rest_is}
 use Rattle.waff_answer.proofs.answers.print.Goals as goal
 
@@ -66,11 +66,11 @@ returns-in-Rate g c =
 pub returns-in-Draw : goal.returns-in-Draw
 returns-in-Draw g c =
     let files = bytes_of c.args.question.now.files.items in
-    let drawing = c.in-Draw.drawing in
+    let picture = c.in-Draw.picture in
     let part = c.in-Draw.part in
-    answers_as (λ _. 0) (λ _ text. IsDrawText (first files) (second files) (third files) (picture_for drawing) part text) (asked.Draw drawing part) files _ _ _ _ _
+    answers_as (λ _. 0) (λ _ text. IsDrawText (first files) (second files) (third files) picture part text) (asked.Draw picture part) files _ _ _ _ _
     c.in-Draw.is (λ _ text is. (refl, is)) c.printed-in-Draw.ensures.written c.printed-in-Draw.ensures.refused
-    (rw (c.file-first.ensures, c.file-second.ensures, c.file-third.ensures, c.picture_of-picture.ensures, c.as_slice-files.ensures.value) at c.draw_text.ensures)
+    (rw (c.file-first.ensures, c.file-second.ensures, c.file-third.ensures, c.as_slice-files.ensures.value) at c.draw_text.ensures)
 
 pub returns-in-Rank : goal.returns-in-Rank
 returns-in-Rank g c =
