@@ -7,8 +7,8 @@
 //! - `table`: the lines of a summary, in their order.
 //!
 //! Writing:
-//! - `writing`: the text of a plan, with workers and without; `numbers`: numbers in it; `ratio`:
-//!   ratios as they are printed.
+//! - `writing`: the text of a plan, with workers and without; `timed`: what it is made of; `numbers`:
+//!   numbers in it; `ratio`: ratios as they are printed.
 //!
 //! Reading:
 //! - `refusal`: why a text is refused.
@@ -41,6 +41,7 @@ mod row;
 mod slots;
 mod summary;
 mod table;
+mod timed;
 mod writing;
 
 pub use given::GivenPlan;
@@ -50,4 +51,5 @@ pub use reading::read_plan;
 pub use refusal::PlanTextError;
 pub use row::{COLUMNS, Row};
 pub use summary::Summary;
-pub use writing::{unlimited_text, worker_text};
+pub use timed::Timed;
+pub use writing::{timed_text, unlimited_text, worker_text};

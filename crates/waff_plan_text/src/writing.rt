@@ -5,6 +5,7 @@ ghost use Rattle.std.specs.Prelude.{map, option_copied, string_bytes};
 ghost use Rattle.waff_plan.specs.Planned.{planned_starts, planned_work};
 ghost use Rattle.waff_plan.specs.Bound.{IsWorkers};
 ghost use Rattle.waff_plan.specs.Chain.{IsListed};
+ghost use Rattle.waff_plan.specs.Timetable.{starts_in, work_in};
 ghost use Rattle.waff_plan.specs.Work.{IsAmongFirst, numbers};
 ghost use Rattle.waff_plan_text.specs.Lines.{Adds, line_text, text_of};
 ghost use Rattle.waff_plan_text.specs.Spelling.{fields_behind, message_row, numbers_field};
@@ -17,6 +18,7 @@ ghost use Rattle.waff_plan_text.specs.Table.{told_of};
 use crate::numbers::{WorkerField, push_field, push_numbers};
 use crate::row::COLUMNS;
 use crate::table::{Line, all_lines};
+use crate::timed::Timed;
 use std::alloc::{AllocError, Global};
 use waff_model::Version;
 use waff_plan::{Planned, Totals};
@@ -33,7 +35,7 @@ pub fn unlimited_text(
         planned.now.case.tree.now planned.now.case.assigned.now
         (planned_work planned.now) (planned_starts planned.now) chain.now)) }
 {
-    manned_text(alloc, planned, None, None, chain)
+    manned_text(alloc, &Timed::of(planned), None, None, chain)
 }
 
 /// The text of a plan for workers, with the worker of each message, and of a chain of its messages.
@@ -52,32 +54,58 @@ pub fn worker_text(
         planned.now.case.tree.now planned.now.case.assigned.now
         (planned_work planned.now) workers (planned_starts planned.now) seats.now chain.now)) }
 {
-    manned_text(alloc, planned, Some(workers), Some(seats), chain)
+    manned_text(
+        alloc,
+        &Timed::of(planned),
+        Some(workers),
+        Some(seats),
+        chain,
+    )
+}
+
+/// The text of a plan for workers, as `worker_text` writes it, of messages whose timings may be others than those of their
+/// trace.
+pub fn timed_text(
+    alloc: Global,
+    timed: &Timed<'_>,
+    workers: u32,
+    seats: &[u32],
+    chain: &[u32],
+) -> Result<String, AllocError>
+    requires workers { IsWorkers workers }
+    requires seats { length seats.now ≡ (work_in timed.now.plan.now).count }
+    requires chain { IsListed (work_in timed.now.plan.now).count chain.now }
+    ensures { IfOk result (λ text. string_bytes text
+        ≡ text_of (worker_lines timed.now.case.trace.now.version
+        timed.now.case.tree.now timed.now.case.assigned.now (work_in timed.now.plan.now) workers
+        (starts_in timed.now.plan.now) seats.now chain.now)) }
+{
+    manned_text(alloc, timed, Some(workers), Some(seats), chain)
 }
 
 /// The text of a plan and of a chain of its messages; `workers` and `seats` are none in a plan
 /// without workers.
 fn manned_text(
     alloc: Global,
-    planned: &Planned<'_>,
+    timed: &Timed<'_>,
     workers: Option<u32>,
     seats: Option<&[u32]>,
     chain: &[u32],
 ) -> Result<String, AllocError>
     requires workers { IfSome workers IsWorkers }
     requires seats { IfSome (option_copied seats)
-        (λ seats. length seats ≡ (planned_work planned.now).count) }
-    requires chain { IsListed (planned_work planned.now).count chain.now }
+        (λ seats. length seats ≡ (work_in timed.now.plan.now).count) }
+    requires chain { IsListed (work_in timed.now.plan.now).count chain.now }
     ensures { IfOk result (λ text. string_bytes text
-        ≡ text_of (plan_lines planned.now.case.trace.now.version
-        planned.now.case.tree.now planned.now.case.assigned.now (planned_work planned.now) workers
-        (planned_starts planned.now) (workers_of (option_copied seats.entry)) chain.now)) }
+        ≡ text_of (plan_lines timed.now.case.trace.now.version timed.now.case.tree.now
+        timed.now.case.assigned.now (work_in timed.now.plan.now) workers
+        (starts_in timed.now.plan.now) (workers_of (option_copied seats.entry)) chain.now)) }
 {
     let mut text = String::new(alloc);
     push_header(&mut text)?;
-    push_rows(&mut text, planned, seats)?;
-    let version = planned.case.trace.version();
-    let totals = planned.plan.totals(workers, chain);
+    push_rows(&mut text, timed, seats)?;
+    let version = timed.case.trace.version();
+    let totals = timed.plan.totals(workers, chain);
     push_summary(&mut text, version, workers, chain, &totals)?;
     Ok(text)
 }
@@ -91,21 +119,17 @@ fn push_header(text: &mut String) -> Result<(), AllocError>
 }
 
 /// Appends the lines of all messages.
-fn push_rows(
-    text: &mut String,
-    planned: &Planned<'_>,
-    seats: Option<&[u32]>,
-) -> Result<(), AllocError>
+fn push_rows(text: &mut String, timed: &Timed<'_>, seats: Option<&[u32]>) -> Result<(), AllocError>
     requires seats { IfSome (option_copied seats)
-        (λ seats. length seats ≡ (planned_work planned.now).count) }
+        (λ seats. length seats ≡ (work_in timed.now.plan.now).count) }
     ensures { OnOk result (Adds text.old text.new
-        (text_of (map (message_row planned.now.case.tree.now planned.now.case.assigned.now
-        (planned_work planned.now) (planned_starts planned.now)
-        (workers_of (option_copied seats.entry))) (numbers (planned_work planned.now))))) }
+        (text_of (map (message_row timed.now.case.tree.now timed.now.case.assigned.now
+        (work_in timed.now.plan.now) (starts_in timed.now.plan.now)
+        (workers_of (option_copied seats.entry))) (numbers (work_in timed.now.plan.now))))) }
 {
-    let plan = planned.plan;
+    let plan = timed.plan;
     for n in 1..plan.len() + 1 {
-        let affinity = planned.case.affinity_name(n);
+        let affinity = timed.case.affinity_name(n);
         let worker = worker_of(seats, n);
         push_plan_row(text, n, affinity, plan.start(n), plan.finish(n), worker)?;
     }

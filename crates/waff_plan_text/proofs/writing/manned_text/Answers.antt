@@ -8,10 +8,10 @@ use Rattle.waff_plan_text.proofs.writing.manned_text.Goals as goal
 
 pub returns : goal.returns
 returns c =
-    let work = work_of c.args.planned.now.plan.now.timings in
-    let start = start_of c.args.planned.now.plan.now.starts in
-    three_parts plan_header (map (message_row c.args.planned.now.case.tree.now c.args.planned.now.case.assigned.now work start (workers_of (option_copied c.args.seats))) (numbers work))
-    (summary_lines c.args.planned.now.case.trace.now.version c.args.workers c.args.chain.now (totals_of c.args.workers work start c.args.chain.now))
+    let work = work_of c.args.timed.now.plan.now.timings in
+    let start = start_of c.args.timed.now.plan.now.starts in
+    three_parts plan_header (map (message_row c.args.timed.now.case.tree.now c.args.timed.now.case.assigned.now work start (workers_of (option_copied c.args.seats))) (numbers work))
+    (summary_lines c.args.timed.now.case.trace.now.version c.args.workers c.args.chain.now (totals_of c.args.workers work start c.args.chain.now))
     (string_bytes c.push_header.new.text) (string_bytes c.push_rows.new.text) (string_bytes c.push_summary.new.text)
     (search rules) c.in_ok-push_rows.ensures
     (rw (c.version-version.ensures, c.totals-totals.ensures.totals) at c.in_ok-push_summary.ensures)

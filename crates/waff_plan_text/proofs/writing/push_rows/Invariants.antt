@@ -8,4 +8,4 @@ use Rattle.waff_plan_text.proofs.writing.push_rows.Given as goal
 abbrev pub invariant-loop-n : goal.invariant-loop-n
 invariant-loop-n l =
     string_bytes l.text ≡ string_bytes l.initial.text
-    ++ text_of (map (message_row l.planned.case.tree.now l.planned.case.assigned.now (work_of l.planned.plan.now.timings) (start_of l.planned.plan.now.starts) (workers_of (option_copied l.seats))) (range_with_len 1 (l.n - 1)))
+    ++ text_of (map (message_row l.timed.case.tree.now l.timed.case.assigned.now (work_of l.timed.plan.now.timings) (start_of l.timed.plan.now.starts) (workers_of (option_copied l.seats))) (range_with_len 1 (l.n - 1)))
