@@ -15,7 +15,7 @@ use Rattle.waff_read.proofs.TraceLaws.{parts_of, none_read}
 
 module _ (version : Version) (spaces : List Space) where
   -- of the records from a place on each is read as the message at its place, where there is one
-  abbrev ReadsFrom : Place → List Record → List Message → Type 0
+  abbrev pub ReadsFrom : Place → List Record → List Message → Type 0
   ReadsFrom place rows messages =
       (k : ℕ) (row : Record) (message : Message) → slice_get rows k ≡ Some row → slice_get messages k ≡ Some message
       → message_at version spaces (behind place (take k messages)) row ≡ Ok message
@@ -91,7 +91,7 @@ module _ (version : Version) (spaces : List Space) where
       let rest = read_each (next_place place p.first) rows p.others p.more in
       rw (← p.is) (ap suc rest.0, reads_more place first rows p.first p.others p.read rest.1)
 
-  each_read : (place : Place) (rows : List Record) (messages : List Message) → length messages ≡ length rows → ReadsFrom place rows messages
+  pub each_read : (place : Place) (rows : List Record) (messages : List Message) → length messages ≡ length rows → ReadsFrom place rows messages
       → messages_at version spaces place rows ≡ Ok messages
   unfolding messages_at
   each_read place [] [] count reads = refl

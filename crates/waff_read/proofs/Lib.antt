@@ -25,4 +25,6 @@ mod AffinityLaws
 mod LockLaws
 mod RefusedLaws
 pub mod LimitLaws
+mod AnewLaws
+mod CutLaws
 pub mod NamedLaws

@@ -172,7 +172,7 @@ pieces_spell : (text : Field) (a : Await) (list : List Await) → map await_of (
 pieces_spell [] a list each = let read = rw empty_await at each in absurd (cc)
 pieces_spell (b ∷ bs) a list each = each
 
-after_is_spelled : (n : ℕ) (list : List Await) → IsList n list → n < 2 ^ 64 → SpellAwaits (after_spelled list) list
+pub after_is_spelled : (n : ℕ) (list : List Await) → IsList n list → n < 2 ^ 64 → SpellAwaits (after_spelled list) list
 after_is_spelled n [] is small = refl
 after_is_spelled n (a ∷ list) is small =
     let each = list_is_small n (a ∷ list) is small in

@@ -43,7 +43,7 @@ use Rattle.waff_read.proofs.SpellingLaws.{All-joined, IsSmall, awaits_all, decim
 use Rattle.waff_read.proofs.TraceLaws.{awaited_in-cons, lists-head, lists-tail, message_at-text, ops_in-cons}
 
 -- records that are written are read, where each has a field
-rows_read : (rows : List Record) → All (λ row. read_back row ≡ row) rows → records_after state.StartRecord (Some (flat_map (row_text default_writer) rows)) ≡ rows
+pub rows_read : (rows : List Record) → All (λ row. read_back row ≡ row) rows → records_after state.StartRecord (Some (flat_map (row_text default_writer) rows)) ≡ rows
 unfolding next_record
 rows_read [] each = records_after-end state.StartRecord [] refl
 rows_read (row ∷ rows) each =
@@ -53,15 +53,15 @@ rows_read (row ∷ rows) each =
     ∙ ap (λ (others : List Record). row ∷ others) (rows_read rows (All-tail (λ row. read_back row ≡ row) row rows each))
 
 -- a text that begins with a header begins with no byte order mark
-no_mark : (version : Version) (rest : List ℕ) → strip_bom (row_text default_writer (header_row version) ++ rest) ≡ row_text default_writer (header_row version) ++ rest
+pub no_mark : (version : Version) (rest : List ℕ) → strip_bom (row_text default_writer (header_row version) ++ rest) ≡ row_text default_writer (header_row version) ++ rest
 unfolding strip_bom is_blank fields_text
 no_mark version rest = refl
 
-records_of-unmarked : (text : List ℕ) → strip_bom text ≡ text → records_of text ≡ records_after state.StartRecord (Some text)
+pub records_of-unmarked : (text : List ℕ) → strip_bom text ≡ text → records_of text ≡ records_after state.StartRecord (Some text)
 unfolding records_after
 records_of-unmarked text unmarked = rw unmarked refl
 
-row_back : (columns : Columns) → read_back (row_of columns) ≡ row_of columns
+pub row_back : (columns : Columns) → read_back (row_of columns) ≡ row_of columns
 row_back columns = refl
 
 records_back : (version : Version) (spaces : List Space) (messages : List Message) → All (λ row. read_back row ≡ row) (map (record_of version spaces) messages)
@@ -84,10 +84,18 @@ name_is_ascii b named = grind (arith, nat_tests)
 ascii_is_text : (text : List ℕ) → All (λ b. b < 128) text → is_utf8 text ≡ true
 ascii_is_text text each = is_utf8-from_IsUtf8 text (IsUtf8-from_ascii text (IsAscii-from_all text each))
 
-literal_is_text : (text : List ℕ) → list_all (λ b. nat_lt b 128) text ≡ true → is_utf8 text ≡ true
+pub literal_is_text : (text : List ℕ) → list_all (λ b. nat_lt b 128) text ≡ true → is_utf8 text ≡ true
 literal_is_text text small = ascii_is_text text (all_if (λ b. b < 128) (λ b. nat_lt b 128) (λ b below. ltb-true b 128 below) text small)
 
-row_is_text : (version : Version) (name cost release client think after ops : Field) → is_utf8 name ≡ true → is_utf8 cost ≡ true → is_utf8 release ≡ true
+pub number_is_text : (n : ℕ) → n < 2 ^ 64 → is_utf8 (decimal n) ≡ true
+number_is_text n small = ascii_is_text (decimal n) (decimal_all (λ b. b < 128) name_is_ascii n small)
+
+pub after_is_text : (list : List Await) → All IsSmall list → is_utf8 (after_spelled list) ≡ true
+after_is_text list small =
+    ascii_is_text (after_spelled list)
+    (All-joined (λ b. b < 128) 32 (map await_spelled list) (omega arith) (awaits_all (λ b. b < 128) name_is_ascii (omega arith) list small))
+
+pub row_is_text : (version : Version) (name cost release client think after ops : Field) → is_utf8 name ≡ true → is_utf8 cost ≡ true → is_utf8 release ≡ true
     → is_utf8 client ≡ true → is_utf8 think ≡ true → is_utf8 after ≡ true → is_utf8 ops ≡ true
     → is_text (row_of (columns_with version name cost release client think after ops)) ≡ true
 row_is_text V1 name cost release client think after ops n c r k t l o = rw (n, c, o) refl
@@ -109,25 +117,17 @@ header_told V2 = refl
 header_told V3 = refl
 header_told V4 = refl
 
-header_is_read : (newest version : Version) (rows : List Record) → versions.number version ≤ versions.number newest → header_of newest (header_row version ∷ rows) ≡ Ok version
+pub header_is_read : (newest version : Version) (rows : List Record) → versions.number version ≤ versions.number newest → header_of newest (header_row version ∷ rows) ≡ Ok version
 header_is_read newest version rows known =
     rw (header_text version, header_told version, le-leb (versions.number version) (versions.number newest) known) refl
 
 module _ (layout : Hierarchy) (is : IsLayout layout) where
-  number_is_text : (n : ℕ) → n < 2 ^ 64 → is_utf8 (decimal n) ≡ true
-  number_is_text n small = ascii_is_text (decimal n) (decimal_all (λ b. b < 128) name_is_ascii n small)
-
   ops_are_text : (version : Version) (message : Message) → IsMessage version (sizes_of layout.spaces) message → All HasSmallNumber message.ops
       → is_utf8 (ops_spelled layout.spaces message.ops) ≡ true
   ops_are_text version message within small =
       ascii_is_text (ops_spelled layout.spaces message.ops)
       (All-joined (λ b. b < 128) 59 (map (op_spelled layout.spaces) message.ops) (omega arith)
       (ops_all layout is (λ b. b < 128) name_is_ascii (omega arith) (omega arith) message.ops within.cells small))
-
-  after_is_text : (list : List Await) → All IsSmall list → is_utf8 (after_spelled list) ≡ true
-  after_is_text list small =
-      ascii_is_text (after_spelled list)
-      (All-joined (λ b. b < 128) 32 (map await_spelled list) (omega arith) (awaits_all (λ b. b < 128) name_is_ascii (omega arith) list small))
 
   -- the record of a message is text
   record_is_text : (version : Version) (message : Message) → IsMessage version (sizes_of layout.spaces) message → All HasSmallNumber message.ops

@@ -1,8 +1,8 @@
 -- What the readers accept, in the words of the formats.
 use Rattle.std.specs.Prelude.{◌≡◌, ◌≢◌, ◌↔◌, ◌⊎◌, ℕ, ◌+◌, ◌-◌, ◌<◌, ◌≤◌, List, [], ◌∷◌, length, map}
 use Rattle.std.specs.Prelude.{take}
-use Rattle.std.specs.Prelude.{drop, false, All, Contains, Option, Some, None, Ok, Err, IsTrue}
-use Rattle.std.specs.Prelude.{slice_get, codes}
+use Rattle.std.specs.Prelude.{drop, true, false, All, Contains, Option, Some, None, Ok, Err, IsTrue}
+use Rattle.std.specs.Prelude.{slice_get, codes, IsSome}
 use Rattle.std.specs.List.{flat_map}
 use Rattle.toml.specs.Data.{Data}
 use Rattle.waff_model.specs.Awaits.{IsList}
@@ -24,9 +24,10 @@ use Rattle.waff_model.specs.declared.message.Version.{Version}
 use Rattle.waff_model.specs.declared.op.Op.{Op}
 use Rattle.waff_parse.specs.Fields.{Field}
 use Rattle.waff_parse.specs.Refusals.{one}
-use Rattle.waff_parse.specs.Rows.{Record, records_of}
+use Rattle.waff_parse.specs.Rows.{Record, is_text, records_of}
 use Rattle.waff_parse.specs.Texts.{blank, number_of, number_within, parts, semicolon}
 use Rattle.waff_read.specs.Affinities.{tree_in}
+use Rattle.waff_read.specs.Anew.{AreSomeToldAnew, AreToldAnew, rows_at, text_anew}
 use Rattle.waff_read.specs.Awaits.{await_of}
 use Rattle.waff_read.specs.Documents.{document_of}
 use Rattle.waff_read.specs.Hierarchies.{hierarchy_of, kind_of, kind_refusal, layout_at}
@@ -174,6 +175,36 @@ SpelledTraceIsRead newest layout trace =
     → versions.number trace.version ≤ versions.number newest
     → All (λ message. All HasSmallNumber message.ops) trace.messages
     → trace_of newest layout.spaces (text_of layout.spaces trace) ≡ Ok trace
+
+-- the records of a trace are its header and one for each message; each is text, and each after the
+-- header has the fields of its version
+pub record AreRows (trace : Arrivals) (rows : List Record) : Type 0 where
+  pub header : 1 ≤ length rows
+  pub count : length (drop 1 rows) ≡ length trace.messages
+  pub are_text : All (λ row. is_text row ≡ true) rows
+  pub columns : All (λ row. IsSome (columns_of trace.version row)) (drop 1 rows)
+
+-- so it is in each text that is accepted
+abbrev pub RowsAreText : Version → List Space → List ℕ → Arrivals → Type 0
+RowsAreText newest spaces bytes trace =
+    trace_of newest spaces bytes ≡ Ok trace → AreRows trace (records_of bytes)
+
+-- a trace whose records are told anew with other costs is read as its messages with these costs
+abbrev pub TraceAnewIsRead : Version → List Space → List ℕ → Arrivals → List Message → Type 0
+TraceAnewIsRead newest spaces bytes trace told =
+    trace_of newest spaces bytes ≡ Ok trace → AreToldAnew trace.messages told
+    → trace_of newest spaces (text_anew trace.version (drop 1 (records_of bytes)) told)
+    ≡ Ok (record trace { messages = told })
+
+-- a trace some of whose records are told anew, and no others, is read as the messages that they
+-- tell
+abbrev pub CutTraceIsRead : Version → List Space
+    → List ℕ → Arrivals → List ℕ → List Message → Type 0
+CutTraceIsRead newest spaces bytes trace numbers told =
+    trace_of newest spaces bytes ≡ Ok trace → AreSomeToldAnew trace.messages numbers told
+    → trace_of newest spaces
+    (text_anew trace.version (rows_at numbers (drop 1 (records_of bytes))) told)
+    ≡ Ok (record trace { messages = told })
 
 -- of the records after the header each is read as the message at its place, where there is one
 abbrev pub AreRead : Version → List Space → List Record → List Message → Type 0

@@ -16,6 +16,7 @@ pub mod Messages
 pub mod Traces
 pub mod Plain
 pub mod Spellings
+pub mod Anew
 pub mod Laws
 pub mod Limits
 pub mod Refused

@@ -11,6 +11,7 @@ ghost use Rattle.waff_model.specs.declared.message.Version.{Version};
 ghost use Rattle.waff_parse.specs.Rows.{Record};
 ghost use Rattle.waff_read.specs.Laws.{RecordIsExact, PiecesAreSingle, SpelledIsRead};
 ghost use Rattle.waff_read.specs.Laws.{SpelledTraceIsRead, LeastCheckDecides, TraceIsExact};
+ghost use Rattle.waff_read.specs.Laws.{RowsAreText, TraceAnewIsRead, CutTraceIsRead};
 ghost use Rattle.waff_read.specs.Laws.{FirstFaultDecides, HierarchyIsExact, ClassicalHasTwoLevels};
 ghost use Rattle.waff_read.specs.Laws.{LocksAreOfFormat3, HyphenIsNoAffinity};
 ghost use Rattle.waff_read.specs.Messages.{Columns};
@@ -47,6 +48,29 @@ pub fn spelled_is_read()
 pub fn spelled_trace_is_read()
     ensures { (newest : Version) (layout : Hierarchy) (trace : Arrivals)
         → SpelledTraceIsRead newest layout trace }
+{}
+
+/// The records of a trace that is accepted are text: its header, and a record for each message,
+/// which has the fields of the version.
+pub fn rows_are_text()
+    ensures { (newest : Version) (spaces : List Space) (bytes : List ℕ) (trace : Arrivals)
+        → RowsAreText newest spaces bytes trace }
+{}
+
+/// A trace that is told anew with other costs is read as the same messages with these costs:
+/// nothing else of them changes, and the text is accepted.
+pub fn trace_anew_is_read()
+    ensures { (newest : Version) (spaces : List Space) (bytes : List ℕ) (trace : Arrivals)
+        (told : List Message) → TraceAnewIsRead newest spaces bytes trace told }
+{}
+
+/// A trace that is cut down to some of its records, told anew, is read as the messages that they
+/// tell. Their lists have to name earlier ones by their new numbers; that there are not too many
+/// messages and operations follows.
+pub fn cut_trace_is_read()
+    ensures { (newest : Version) (spaces : List Space) (bytes : List ℕ) (trace : Arrivals)
+        (numbers : List ℕ) (told : List Message)
+        → CutTraceIsRead newest spaces bytes trace numbers told }
 {}
 
 /// A trace is accepted exactly where its header and each record after it is, and has their messages

@@ -16,12 +16,13 @@
 //! over `Documents`, `Formats`, `Shapes`, `Affinities` and `Spaces`. Of a trace: `Traces` (whole
 //! texts), over `Messages` (records at their `Places`), `Awaits` (lists) and `Pieces`, which are
 //! operations (`Ops`) or `Ranges` as they are spelled, with `TraceFaults` (the order of the
-//! refusals) and `Plain` (records without quotes).
+//! refusals) and `Plain` (records without quotes). `Spellings` has the text that spells a trace,
+//! `Anew` the one that tells its records anew, with other costs and other lists.
 //!
 //! A file is read exactly where the format accepts it, as what is written there. Else the refusal
 //! is the one that the format names: of the first record with a fault, and of its first check that
 //! holds. An allocation failure apart. The laws say the same in words of their own, and that what
-//! is spelled is read back.
+//! is spelled is read back, and what is told anew.
 //!
 //! Tests: `test_worked/src/hierarchies.rt` and `traces.rt` (tables of refusals in the order of the
 //! checks, the sample with one change each, the ends of each limit, quoted fields, CR LF, blank
