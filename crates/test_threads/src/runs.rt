@@ -221,9 +221,8 @@ fn tells_what_is_left_where_that_is_wanted(rt: HostRuntime) {
         _ => panic!(rt; "no fault of the store"),
     }
     match told {
-        Some(left) => assert_eq!(rt;
-            left.measured.as_str(),
-            "message,cost,release,client,think,ops\n"
+        Some(left) => assert!(rt;
+            left.measured.as_slice() == "message,cost,release,client,think,ops\n".as_bytes()
         ),
         None => panic!(rt; "nothing is told"),
     }

@@ -7,6 +7,7 @@ use Rattle.waff_assign.specs.Held.{Held}
 use Rattle.waff_assign.specs.Instance.{Instance}
 use Rattle.waff_assign.specs.Lowest.{IsAssignment}
 use Rattle.waff_inputs.specs.Inputs.{Accepts, Refuses, instance_under}
+use Rattle.waff_inputs.specs.Known.{trace_of}
 use Rattle.waff_inputs.specs.declared.fault.ToolError.TheVariants as tool
 use Rattle.waff_model.specs.Layout.{Hierarchy}
 use Rattle.waff_model.specs.Messages.{Arrivals}
@@ -97,3 +98,12 @@ assigned_under hierarchy_file trace_file layout assigned trace accepts is =
     let read = accepts.is_layout in
     let same : accepts.layout ≡ layout = cc in
     subst (λ (l : Hierarchy). IsAssignment l trace.messages assigned) same accepts.assignment
+
+-- what the bytes of the trace are read as
+pub spelled_under : (hierarchy_file trace_file : List ℕ) (layout : Hierarchy) (assigned : List Held) (trace : Arrivals)
+    → Accepts hierarchy_file trace_file (instance_under layout assigned trace) → hierarchy_of hierarchy_file ≡ Ok layout
+    → trace_of layout.spaces trace_file ≡ Ok trace
+spelled_under hierarchy_file trace_file layout assigned trace accepts is =
+    let read = accepts.is_layout in
+    let same : accepts.layout ≡ layout = cc in
+    subst (λ (l : Hierarchy). trace_of l.spaces trace_file ≡ Ok trace) same accepts.is_trace

@@ -6,6 +6,7 @@ ghost use Rattle.waff_plan.specs.Bound.{IsWorkers};
 ghost use Rattle.waff_read.specs.Hierarchies.{hierarchy_of};
 ghost use Rattle.waff_io.specs.Writing.{AppendsPart, Tells, WritesOrFails};
 ghost use Rattle.waff_inputs.specs.Inputs.{instance_under};
+ghost use Rattle.waff_inputs.specs.Known.{trace_of};
 ghost use Rattle.waff_inputs.specs.declared.fault.ToolError.TheVariants as tool;
 ghost use Rattle.waff_run.specs.Faults.{IsOfRunning};
 ghost use Rattle.waff_run.specs.Opening.{job_of, told_of};
@@ -388,15 +389,16 @@ fn ran_on_files<R: Threads + Wait + Clock + Files + Opens + Eprint + Sync>(
     trace: &[u8],
 ) -> Result<RanOnFiles, BrokeOff>
     requires read { hierarchy_of hierarchy.now ≡ Ok accepted.now.layout }
+    requires spelled { trace_of accepted.now.layout.spaces trace.now ≡ Ok accepted.now.trace }
     requires assigned { IsAssignment accepted.now.layout accepted.now.trace.messages accepted.now.assigned }
     ensures told { IfOk result (λ ran. TellRun hierarchy.now
         (instance_under accepted.now.layout accepted.now.assigned accepted.now.trace)
-        task.now.words.workers task.now.words.tick (string_bytes ran.told.measured)
+        task.now.words.workers task.now.words.tick ran.told.measured.items
         (string_bytes ran.told.text) ran.told.drift) }
     ensures refused { IfErr result (λ broke. IsOfTask accepted.now.layout accepted.now.trace task.now broke.error) }
     ensures left { IfErr result (λ broke. IfSome broke.left (λ left. TellPart hierarchy.now
         (instance_under accepted.now.layout accepted.now.assigned accepted.now.trace)
-        task.now.words.workers task.now.words.tick (string_bytes left.told.measured)
+        task.now.words.workers task.now.words.tick left.told.measured.items
         (string_bytes left.told.text) left.told.drift)) }
     ensures wanted { IfErr result (λ broke. IfSome broke.left (λ _. task.now.words.partial ≡ true)) }
 {
@@ -448,17 +450,18 @@ fn ran_on_store<R: Threads + Wait + Clock + Eprint + Sync>(
     requires workers { IsWorkers settings.now.pace.workers }
     requires tick { 1 ≤ settings.now.pace.tick }
     requires read { hierarchy_of hierarchy.now ≡ Ok accepted.now.layout }
+    requires spelled { trace_of accepted.now.layout.spaces trace.now ≡ Ok accepted.now.trace }
     requires assigned { IsAssignment accepted.now.layout accepted.now.trace.messages accepted.now.assigned }
     ensures told { IfOk result (λ told. TellRun hierarchy.now
         (instance_under accepted.now.layout accepted.now.assigned accepted.now.trace)
-        settings.now.pace.workers settings.now.pace.tick (string_bytes told.measured)
+        settings.now.pace.workers settings.now.pace.tick told.measured.items
         (string_bytes told.text) told.drift) }
     ensures refused { IfErr result (λ broken. IsOfRunning
         (job_of accepted.now.layout places.now accepted.now.trace) settings.now.pace.workers broken.error) }
     ensures left { IfErr result (λ broken. IfSome broken.told (λ told. TellPart hierarchy.now
         (instance_under accepted.now.layout accepted.now.assigned accepted.now.trace)
         settings.now.pace.workers settings.now.pace.tick
-        (string_bytes told.measured) (string_bytes told.text) told.drift)) }
+        told.measured.items (string_bytes told.text) told.drift)) }
     ensures wanted { IfErr result (λ broken. IfSome broken.told (λ _. settings.now.partial ≡ true)) }
 {
     let hands = match silent_hands(alloc, accepted.trace.len() as usize) {
@@ -530,7 +533,7 @@ fn write_measured<R: Files>(rt: &R, part: Option<Part>, told: &Recorded) -> Resu
     let Some(part) = part else {
         return Ok(());
     };
-    match part.keep(rt, told.measured.as_bytes()) {
+    match part.keep(rt, told.measured.as_slice()) {
         Ok(()) => Ok(()),
         Err(_) => Err(RunError::Tool(ToolError::Write)),
     }
@@ -545,7 +548,7 @@ fn how_it_went<R: Threads + Sync>(rt: &R, alloc: Global, task: &RunTask, ran: &R
         return Advice::Nothing;
     }
     let hierarchy = file(task.files.as_slice(), 0);
-    let measured = ran.measured.as_bytes();
+    let measured = ran.measured.as_slice();
     let workers = task.words.workers.number();
     let Ok(planned) = planned_length(rt, alloc, hierarchy, measured, workers) else {
         return Advice::Nothing;

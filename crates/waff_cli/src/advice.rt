@@ -51,7 +51,7 @@ pub enum RunFault<'a> {
     File(&'a str),
     /// Not all workers could be started.
     Threads,
-    /// The trace with the costs that were measured was not read back as it was written.
+    /// The run went on out of turn.
     Run,
 }
 
@@ -75,8 +75,7 @@ const LARGER_TICK: &str =
 const FEWER_WORKERS: &str =
     "this machine started only so many workers, so nothing was run: a smaller --workers, or a higher limit of processes or memory\n";
 
-const NOT_READ_BACK: &str =
-    "the trace of what was run is not read back as it was written, so nothing is printed\n";
+const OUT_OF_TURN: &str = "the run went on out of turn, a fault of waff, so nothing is printed\n";
 
 const ONE_FILE: &str =
     "the hierarchy, the trace, the file of --trace and each file of the folder have to be files of their own\n";
@@ -155,7 +154,7 @@ pub fn advice_on_run(alloc: Global, task: &RunTask, fault: RunFault<'_>) -> Advi
             "{folder}/{name}: it is no regular file, another run holds it, or it could not be opened, lengthened, read, written or synced\n"
         )),
         RunFault::Threads => Advice::Line(FEWER_WORKERS),
-        RunFault::Run => Advice::Line(NOT_READ_BACK),
+        RunFault::Run => Advice::Line(OUT_OF_TURN),
     }
 }
 

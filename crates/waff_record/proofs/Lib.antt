@@ -14,6 +14,7 @@ mod Over
 mod Own
 mod Pass
 mod Planned
+mod Retold
 mod Placing
 mod Ran
 mod Rows
@@ -24,3 +25,4 @@ mod Tellable
 mod Telling
 mod Unique
 mod Walking
+mod Writing

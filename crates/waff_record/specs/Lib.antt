@@ -1,4 +1,5 @@
 pub mod Turns
+pub mod Writing
 pub mod Rounded
 pub mod Laws
 pub mod Begun

@@ -13,6 +13,7 @@ use Rattle.waff_line.specs.Machine.{Course}
 use Rattle.waff_line.specs.Turns.{AreRunTurns, course_by}
 use Rattle.waff_record.specs.Drift.{drift_of, last_finish}
 use Rattle.waff_record.specs.Rounded.{IsRounded}
+use Rattle.waff_record.specs.Runs.{trace_told}
 use Rattle.waff_record.specs.declared.rounding.TheConstants.{MAX_RUN}
 use Rattle.waff_record.specs.declared.told_run.ToldRun.{ToldRun}
 use Rattle.waff_record.specs.declared.turns.RunTurns.{RunTurns}
@@ -62,3 +63,7 @@ drift_told told =
 abbrev pub instance_with : Case → Arrivals → Instance
 instance_with case trace =
     record { tree = case.tree.now; assigned = case.assigned.now; trace = trace }
+
+-- the trace with the costs that are told of a run, and what its messages held
+abbrev pub instance_told : ToldRun → Instance
+instance_told told = instance_with told.run.case (trace_told told.run.case.trace.now told.plan.now)

@@ -1,5 +1,6 @@
 -- What a run gives out: the trace with the costs that are told, and a plan of it.
-use Rattle.std.specs.Prelude.{◌≡◌, ℕ, ◌*◌, ◌≤◌, List, Option, Some, Ok, length}
+use Rattle.std.specs.Prelude.{◌≡◌, ℕ, ◌*◌, ◌≤◌, List, Option, Some, Ok, length, map}
+use Rattle.std.specs.List.{range_with_len}
 use Rattle.waff_model.specs.Messages.{Arrivals}
 use Rattle.waff_model.specs.Numbers.{IsAmongFirst}
 use Rattle.waff_model.specs.declared.message.Message.{Message}
@@ -10,6 +11,7 @@ use Rattle.waff_plan.specs.Timetable.{Timetable, message_of, work_of_messages}
 use Rattle.waff_plan.specs.Timing.{timing_of}
 use Rattle.waff_plan.specs.Work.{IsNumber, finish_of, length_of}
 use Rattle.waff_plan.specs.Workers.{running}
+use Rattle.waff_plan.specs.declared.timing.Timing.{Timing}
 use Rattle.waff_plan_text.specs.Given.{Given}
 use Rattle.waff_plan_text.specs.PlanTexts.{plan_of}
 use Rattle.waff_check.specs.Promises as promises
@@ -46,6 +48,20 @@ pub record IsToldTrace (trace : Arrivals) (plan : Timetable) (other : Arrivals) 
   pub measured : IsMeasured trace other
   pub costs : (n : ℕ) → IsAmongFirst (length trace.messages) n
       → (message_of other.messages n).cost ≡ (timing_of plan.timings n).cost
+
+-- a message with another cost
+abbrev pub message_told : Message → ℕ → Message
+message_told message cost = record message { cost = cost }
+
+-- messages with the costs of timings of theirs
+abbrev pub messages_told : List Message → List Timing → List Message
+messages_told messages timings =
+    map (λ n. message_told (message_of messages n) (timing_of timings n).cost)
+    (range_with_len 1 (length messages))
+
+-- the trace with the costs of a plan of its messages
+abbrev pub trace_told : Arrivals → Timetable → Arrivals
+trace_told trace plan = record trace { messages = messages_told trace.messages plan.timings }
 
 -- a plan that is given for the messages of a trace is one for k workers in which the check finds no fault; and
 -- what holds of it:

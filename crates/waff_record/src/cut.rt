@@ -7,10 +7,78 @@ ghost use Rattle.waff_plan.specs.Timetable.{message_of, timings_of, work_in};
 ghost use Rattle.waff_plan.specs.Timing.{await_of};
 ghost use Rattle.waff_record.specs.Left.{IsCutTo, IsIssuedAmong, IsToldAmong, await_kept, number_at};
 
-use crate::checked::{are_same, are_same_awaited};
+use crate::anew::{
+    Spelled, fields_anew, finished, next_row, no_rows, no_words, spell, titles, write_row,
+};
+use crate::left::StoppedRun;
+use csv::StringRecord;
 use std::alloc::{AllocError, Global};
-use waff_model::{Await, Message, Trace};
+use waff_model::{Await, Message, Ops, Trace};
+use waff_parse::text_rows;
 use waff_plan::Plan;
+use waff_read::laws;
+
+/// The trace of a run that was stopped, cut down to the messages with these numbers, which the lists of messages that are
+/// awaited then go by.
+pub(crate) fn cut_text(
+    alloc: Global,
+    run: &StoppedRun<'_>,
+    kept: &[u32],
+) -> Result<Vec<u8>, AllocError> {
+    laws::rows_are_text();
+    let trace = &run.whole.trace;
+    let version = trace.version();
+    let mut text = no_rows(alloc, run.bytes.len())?;
+    let mut rows = text_rows(alloc, run.bytes);
+    let mut row = StringRecord::new(alloc);
+    let mut spelled = no_words(alloc);
+    next_row(&mut rows, &mut row)?;
+    write_row(&mut text, version, &titles())?;
+    for n in 1..trace.len() + 1 {
+        next_row(&mut rows, &mut row)?;
+        if is_kept(kept, n) {
+            spell_kept(alloc, &mut spelled, kept, trace.message(n))?;
+            write_row(&mut text, version, &fields_anew(&row, &spelled))?;
+        }
+    }
+    finished(text)
+}
+
+/// Whether this message is one of those that are kept.
+fn is_kept(kept: &[u32], message: u32) -> bool {
+    kept.binary_search(&message).is_ok()
+}
+
+/// Spells the cost of a message, and its list by the numbers of those that are kept.
+fn spell_kept(
+    alloc: Global,
+    spelled: &mut Spelled,
+    kept: &[u32],
+    message: &Message,
+) -> Result<(), AllocError> {
+    let list = list_among(alloc, kept, message.after.as_slice())?;
+    let spelt = spell(spelled, u64::from(message.cost), list.as_slice());
+    drop(list);
+    spelt
+}
+
+/// Messages that are awaited, by their numbers among those that are kept; by 0 where they are not among them.
+fn list_among(alloc: Global, kept: &[u32], list: &[Await]) -> Result<Vec<Await>, AllocError> {
+    list.iter()
+        .map(|one| Await {
+            message: place_among(kept, one.message),
+            gap: one.gap,
+        })
+        .collect(alloc)
+}
+
+/// The number of this message among those that are kept, 0 where it is not.
+fn place_among(kept: &[u32], message: u32) -> u32 {
+    match kept.binary_search(&message) {
+        Ok(at) => u32::try_from(at.saturating_add(1)).unwrap_or(0),
+        Err(_) => 0,
+    }
+}
 
 /// Whether the second trace is the first one, cut down to the messages with these numbers. The plans are any of theirs.
 pub(crate) fn is_cut(
@@ -171,4 +239,26 @@ fn number_at(kept: &[u32], k: u32) -> u32
         Some(n) => *n,
         None => 0,
     }
+}
+
+/// Whether two lists of messages that are awaited are the same.
+fn are_same_awaited(after: &[Await], other: &[Await]) -> bool
+    ensures { OnTrue result (after.now ≡ other.now) }
+{
+    after == other
+}
+
+/// Whether two lists of operations are the same.
+fn are_same(ops: &Ops, other: &Ops) -> bool
+    ensures { OnTrue result (ops.now ≡ other.now) }
+{
+    if ops.len() != other.len() {
+        return false;
+    }
+    for at in 0..ops.len() {
+        if ops.get(at) != other.get(at) {
+            return false;
+        }
+    }
+    true
 }

@@ -8,8 +8,6 @@ pub enum RecordError {
     Memory,
     /// This message would be told to finish too late, or to run for too many ticks.
     Tick(u32),
-    /// The trace with the costs that are told, or what is left of the trace, is not read back as it was written.
-    Refused,
 }
 
 impl From<AllocError> for RecordError {

@@ -1,6 +1,7 @@
 //! What is left of a run that was stopped: the messages that had ended by then.
 
 ghost use Rattle.std.specs.Prelude.{◌≡◌, ◌<◌, ◌≤◌, ◌+◌, ◌-◌, ◌*◌, IfOk, IsTrue, Ok, OnOk, ◌↔◌, length};
+ghost use Rattle.waff_inputs.specs.Known.{trace_of};
 ghost use Rattle.waff_model.specs.Numbers.{IsAmongFirst};
 ghost use Rattle.waff_model.specs.declared.limits.TheConstants.{MAX_COST, MAX_MESSAGES};
 ghost use Rattle.waff_plan.specs.Bound.{IsWorkers};
@@ -18,13 +19,15 @@ use waff_model::limits::MAX_COST;
 /// A run of the messages of accepted files that was stopped: its turns, some of which have not ended.
 #[derive(Clone, Copy)]
 pub struct StoppedRun<'a> {
-    /// The bytes of the hierarchy of those files.
+    /// The bytes of those files.
     pub hierarchy: &'a [u8],
+    pub bytes: &'a [u8],
     pub whole: &'a Accepted,
     pub turns: &'a [Turn],
     pub workers: u32,
     pub tick: u32,
     pub ghost read: { hierarchy_of hierarchy.now ≡ Ok whole.now.layout },
+    pub ghost spelled: { trace_of whole.now.layout.spaces bytes.now ≡ Ok whole.now.trace },
     pub ghost staffed: { IsWorkers workers },
     pub ghost lasting: { 1 ≤ tick },
 }

@@ -2,11 +2,11 @@
 //!
 //! The turns of a run are measured in nanoseconds. What is told of them is their rounding to ticks (`IsRounded`): one pass
 //! over the messages in the order in which they began. The rounding of a run is a plan that obeys, by laws. The trace with
-//! its costs is read again before it is given out, since its other fields are copied as they stand: it has to have the messages
-//! that were run, with the costs that are told. The hierarchy is not read again: what messages hold goes by their operations.
+//! its costs is told anew, record by record, and by a law of its reader (`TraceAnewIsRead`) it is read as the messages that were
+//! run, with the costs that are told. So nothing that is told is read again. What messages hold goes by their operations.
 //! - `outcome`: the two texts; `fault`: why there are none; `turns`, `told_run`: what they are made of.
 //! - `rounding`: turns in ticks; `laws`: what holds of that; `drift`: how much longer it is than the run was.
-//! - `told`: the texts, made; `checked`: the trace, compared.
+//! - `anew`: the text of the trace; `told`: that of the plan.
 //! - `partial`: what is told of a run that was stopped; `left`: which messages are left of it; `cut`: the trace cut down to
 //!   them.
 //!
@@ -19,11 +19,11 @@
 //! of the plan is read nor the plan checked: what is written of a plan is read as it (`WrittenIsRead`), and one that obeys in
 //! the order in which it starts messages is accepted (`OwnPlanIsAccepted`). What is told of a run that was stopped (`TellLeft`)
 //! is that of a run of the messages that had ended, each of them, but for one for which it was stopped. The trace is cut down
-//! to these (`IsCutTo`), and their turns are those of a run of it, by a law (`LeftIsRun`). That the trace is read back so is
-//! promised by no clause: `tests/runs/run` and `test_threads` show it.
+//! to these (`IsCutTo`), and their turns are those of a run of it, by a law (`LeftIsRun`). The trace that was cut down is read,
+//! and compared with the whole one. That it is read so is promised by no clause: `tests/runs/run` and `test_threads` show it.
 #![tactic(auto)]
 
-mod checked;
+mod anew;
 mod cut;
 mod drift;
 mod fault;

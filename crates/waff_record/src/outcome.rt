@@ -1,30 +1,28 @@
 //! What is told of a run, made of the turns of its messages.
 
-ghost use Rattle.std.specs.Prelude.{◌≡◌, IfOk, OnOk, string_bytes};
+ghost use Rattle.std.specs.Prelude.{◌≡◌, IfOk, string_bytes};
 ghost use Rattle.waff_assign.specs.Case.{instance_of};
 ghost use Rattle.waff_assign.specs.Lowest.{IsAssignment};
 ghost use Rattle.waff_record.specs.Drift.{short_turns};
-ghost use Rattle.waff_record.specs.Ran.{HasRun, IsToldRun, drift_told, instance_with};
-ghost use Rattle.waff_record.specs.Runs.{AreRunTexts, IsMeasured, IsPlanFor};
+ghost use Rattle.waff_record.specs.Ran.{HasRun, IsToldRun};
+ghost use Rattle.waff_record.specs.Runs.{AreRunTexts};
 
-use crate::checked::{is_measured, refused};
+use crate::anew::measured_text;
 use crate::drift::{drift_of, last_finish, short_turns};
 use crate::fault::RecordError;
 use crate::rounding::rounded;
-use crate::told::{measured_text, plan_text};
+use crate::told::plan_text;
 use crate::told_run::ToldRun;
 use crate::turns::RunTurns;
 use std::alloc::{AllocError, Global};
-use std::thread::Threads;
-use waff_inputs::read_trace_by_threads;
 use waff_line::Turn;
-use waff_model::Trace;
+use waff_read::laws;
 
 /// What a run tells.
 #[derive(Drop)]
 pub struct Recorded {
     /// The trace with the costs that are told.
-    pub measured: String,
+    pub measured: Vec<u8>,
     /// The text of the plan that is told.
     pub text: String,
     /// By how many per cent what is told is longer than what was measured, where that is more than one.
@@ -43,19 +41,14 @@ pub struct Tally {
     pub short: usize,
 }
 
-/// What is told of a run of the messages of the trace that these bytes are, in ticks.
-pub fn record_of<R: Threads + Sync>(
-    rt: &R,
-    alloc: Global,
-    run: &RunTurns<'_>,
-    bytes: &[u8],
-) -> Result<Recorded, RecordError>
+/// What is told of a run of the messages of a trace, in ticks.
+pub fn record_of(alloc: Global, run: &RunTurns<'_>) -> Result<Recorded, RecordError>
     requires ran { HasRun run.now }
     requires assigned { IsAssignment run.now.layout.now run.now.case.trace.now.messages
         run.now.case.assigned.now }
     ensures texts { IfOk result (λ ran. AreRunTexts run.now.hierarchy.now (instance_of run.now.case)
         run.now.workers run.now.tick run.now.turns.now
-        (string_bytes ran.measured) (string_bytes ran.text) ran.drift) }
+        ran.measured.items (string_bytes ran.text) ran.drift) }
     ensures short { IfOk result
         (λ ran. ran.tally.short ≡ short_turns run.now.tick run.now.turns.now) }
 {
@@ -64,84 +57,43 @@ pub fn record_of<R: Threads + Sync>(
         run: *run,
         plan: &plan,
     };
-    let recorded = record_told(rt, alloc, &told, bytes);
+    let recorded = record_told(alloc, &told);
     drop(plan);
-    recorded
+    Ok(recorded?)
 }
 
 /// The same, where the plan that is told is known.
-fn record_told<R: Threads + Sync>(
-    rt: &R,
-    alloc: Global,
-    told: &ToldRun<'_>,
-    bytes: &[u8],
-) -> Result<Recorded, RecordError>
+fn record_told(alloc: Global, told: &ToldRun<'_>) -> Result<Recorded, AllocError>
     requires told { IsToldRun told.now }
     requires assigned { IsAssignment told.now.run.layout.now told.now.run.case.trace.now.messages
         told.now.run.case.assigned.now }
     ensures texts { IfOk result (λ ran. AreRunTexts told.now.run.hierarchy.now
         (instance_of told.now.run.case) told.now.run.workers told.now.run.tick
-        told.now.run.turns.now (string_bytes ran.measured) (string_bytes ran.text) ran.drift) }
+        told.now.run.turns.now ran.measured.items (string_bytes ran.text) ran.drift) }
     ensures short { IfOk result
         (λ ran. ran.tally.short ≡ short_turns told.now.run.tick told.now.run.turns.now) }
 {
+    laws::trace_anew_is_read();
+    let _planned = told.plan.len();
     let tally = tally_of(alloc, told)?;
     let drift = drift_of(
         told.plan.length(),
         told.run.tick,
         last_finish(told.run.turns),
     );
-    let measured = measured_text(alloc, bytes, told.plan)?.ok_or(RecordError::Refused)?;
-    match text_for(rt, alloc, told, measured.as_bytes()) {
-        Ok(text) => Ok(Recorded {
+    let text = plan_text(alloc, told)?;
+    match measured_text(alloc, told) {
+        Ok(measured) => Ok(Recorded {
             measured,
             text,
             drift,
             tally,
         }),
         Err(error) => {
-            drop(measured);
+            drop(text);
             Err(error)
         }
     }
-}
-
-/// The text of the plan that is told, for the trace with the costs that are told, which is read again.
-fn text_for<R: Threads + Sync>(
-    rt: &R,
-    alloc: Global,
-    told: &ToldRun<'_>,
-    measured: &[u8],
-) -> Result<String, RecordError>
-    requires told { IsToldRun told.now }
-    requires assigned { IsAssignment told.now.run.layout.now told.now.run.case.trace.now.messages
-        told.now.run.case.assigned.now }
-    ensures { IfOk result (λ text. AreRunTexts told.now.run.hierarchy.now
-        (instance_of told.now.run.case) told.now.run.workers told.now.run.tick
-        told.now.run.turns.now measured.now (string_bytes text) (drift_told told.now)) }
-{
-    match read_trace_by_threads(rt, alloc, told.run.layout, measured) {
-        Ok(trace) => {
-            let text = text_over(alloc, told, &trace);
-            drop(trace);
-            text
-        }
-        Err(fault) => Err(refused(fault)),
-    }
-}
-
-/// The text of the plan that is told, for a trace, where that has the costs that are told.
-fn text_over(alloc: Global, told: &ToldRun<'_>, trace: &Trace) -> Result<String, RecordError>
-    requires told { IsToldRun told.now }
-    ensures measured { OnOk result (IsMeasured told.now.run.case.trace.now trace.now) }
-    ensures plan { IfOk result (λ text. IsPlanFor (instance_of told.now.run.case)
-        (instance_with told.now.run.case trace.now) told.now.run.workers told.now.run.tick
-        told.now.run.turns.now (string_bytes text) (drift_told told.now)) }
-{
-    if !is_measured(told.run.case.trace, told.plan, trace) {
-        return Err(RecordError::Refused);
-    }
-    Ok(plan_text(alloc, told, trace)?)
 }
 
 /// How long the run was, how late its messages began, and how many were shorter than a tick.

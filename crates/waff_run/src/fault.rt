@@ -18,7 +18,7 @@ pub enum Stopped {
     File(usize),
     /// Only so many workers could be started, the first of them counted.
     Threads(u32),
-    /// The line would have gone on out of turn, or the trace with the costs that are told was not read back as it was written.
+    /// The line would have gone on out of turn.
     Line,
 }
 
@@ -33,7 +33,6 @@ impl From<RecordError> for Stopped {
         match error {
             RecordError::Memory => Stopped::Memory,
             RecordError::Tick(m) => Stopped::Tick(m),
-            RecordError::Refused => Stopped::Line,
         }
     }
 }
@@ -62,7 +61,7 @@ pub enum RunError {
     File(String),
     /// Only so many workers could be started, the first of them counted, and nothing was run.
     Threads(u32),
-    /// The trace with the costs that are told was not read back as it was written, or the line would have gone on out of turn.
+    /// The line would have gone on out of turn.
     Run,
 }
 

@@ -3,6 +3,7 @@
 ghost use Rattle.std.specs.Prelude.{◌≡◌, ◌≤◌, IfErr, IfOk, IfSome, None, Ok, OnOk, true, length, map, option_map, string_bytes};
 ghost use Rattle.waff_assign.specs.Lowest.{IsAssignment};
 ghost use Rattle.waff_inputs.specs.Inputs.{instance_under};
+ghost use Rattle.waff_inputs.specs.Known.{trace_of};
 ghost use Rattle.waff_line.specs.Turns.{AreReached, AreRunTurns, course_by};
 ghost use Rattle.waff_plan.specs.Bound.{IsWorkers};
 ghost use Rattle.waff_read.specs.Hierarchies.{hierarchy_of};
@@ -78,12 +79,13 @@ pub fn run_on<R: Threads + Wait + Clock + Eprint + Sync, S: Store + Sync>(
     requires workers { IsWorkers settings.now.pace.workers }
     requires tick { 1 ≤ settings.now.pace.tick }
     requires read { hierarchy_of hierarchy.now ≡ Ok accepted.now.layout }
+    requires spelled { trace_of accepted.now.layout.spaces trace.now ≡ Ok accepted.now.trace }
     requires assigned { IsAssignment accepted.now.layout accepted.now.trace.messages accepted.now.assigned }
     requires fresh { AreFresh (length accepted.now.trace.messages)
         (map (option_map S.log) hands.items) }
     ensures told { IfOk result (λ ran. TellRun hierarchy.now
         (instance_under accepted.now.layout accepted.now.assigned accepted.now.trace)
-        settings.now.pace.workers settings.now.pace.tick (string_bytes ran.told.measured)
+        settings.now.pace.workers settings.now.pace.tick ran.told.measured.items
         (string_bytes ran.told.text) ran.told.drift) }
     ensures asked { IfOk result (λ ran. AreAsked (asking_by places.now accepted.now.trace settings.now)
         (map (option_map S.log) ran.hands.items)) }
@@ -94,7 +96,7 @@ pub fn run_on<R: Threads + Wait + Clock + Eprint + Sync, S: Store + Sync>(
     ensures left { IfErr result (λ broken. IfSome broken.told (λ told. TellPart hierarchy.now
         (instance_under accepted.now.layout accepted.now.assigned accepted.now.trace)
         settings.now.pace.workers settings.now.pace.tick
-        (string_bytes told.measured) (string_bytes told.text) told.drift)) }
+        told.measured.items (string_bytes told.text) told.drift)) }
     ensures wanted { IfErr result (λ broken. IfSome broken.told (λ _. settings.now.partial ≡ true)) }
 {
     let filled = fill_all(alloc, accepted, store, hand, places, settings);
@@ -103,7 +105,7 @@ pub fn run_on<R: Threads + Wait + Clock + Eprint + Sync, S: Store + Sync>(
         return Err(untold(error));
     }
     match ran_on(rt, alloc, accepted, store, hands, places, settings) {
-        Ok(ran) => told_on(rt, alloc, accepted, hierarchy, trace, ran, places, settings),
+        Ok(ran) => told_on(alloc, accepted, hierarchy, trace, ran, places, settings),
         Err(halted) => Err(broken_of(
             rt, alloc, accepted, hierarchy, trace, halted, places, settings,
         )),
@@ -119,8 +121,7 @@ fn untold(error: RunError) -> Broken
 }
 
 /// What is told of a run that came to its end.
-fn told_on<R: Threads + Sync, H: Drop>(
-    rt: &R,
+fn told_on<H: Drop>(
     alloc: Global,
     accepted: &Accepted,
     hierarchy: &[u8],
@@ -132,12 +133,13 @@ fn told_on<R: Threads + Sync, H: Drop>(
     requires workers { IsWorkers settings.now.pace.workers }
     requires tick { 1 ≤ settings.now.pace.tick }
     requires read { hierarchy_of hierarchy.now ≡ Ok accepted.now.layout }
+    requires spelled { trace_of accepted.now.layout.spaces trace.now ≡ Ok accepted.now.trace }
     requires assigned { IsAssignment accepted.now.layout accepted.now.trace.messages accepted.now.assigned }
     requires ran { AreRunTurns (course_by (instance_under accepted.now.layout
         accepted.now.assigned accepted.now.trace) settings.now.pace.workers settings.now.pace.tick) ran.turns.items }
     ensures told { IfOk result (λ on. TellRun hierarchy.now
         (instance_under accepted.now.layout accepted.now.assigned accepted.now.trace)
-        settings.now.pace.workers settings.now.pace.tick (string_bytes on.told.measured)
+        settings.now.pace.workers settings.now.pace.tick on.told.measured.items
         (string_bytes on.told.text) on.told.drift) }
     ensures hands { IfOk result (λ on. on.hands ≡ ran.hands) }
     ensures refused { IfErr result (λ broken. IsOfRunning
@@ -149,11 +151,12 @@ fn told_on<R: Threads + Sync, H: Drop>(
         hierarchy,
         layout: &accepted.layout,
         case: accepted.case(),
+        bytes: trace,
         turns: turns.as_slice(),
         workers: settings.pace.workers,
         tick: settings.pace.tick,
     };
-    let told = record_of(rt, alloc, &run, trace);
+    let told = record_of(alloc, &run);
     drop(turns);
     match told {
         Ok(told) => Ok(RanOn { told, hands }),
@@ -180,6 +183,7 @@ fn broken_of<R: Threads + Sync>(
     requires workers { IsWorkers settings.now.pace.workers }
     requires tick { 1 ≤ settings.now.pace.tick }
     requires read { hierarchy_of hierarchy.now ≡ Ok accepted.now.layout }
+    requires spelled { trace_of accepted.now.layout.spaces trace.now ≡ Ok accepted.now.trace }
     requires assigned { IsAssignment accepted.now.layout accepted.now.trace.messages accepted.now.assigned }
     requires reached { IfSome halted.turns (λ turns. AreReached (course_by (instance_under accepted.now.layout
         accepted.now.assigned accepted.now.trace) settings.now.pace.workers settings.now.pace.tick) turns.items) }
@@ -188,7 +192,7 @@ fn broken_of<R: Threads + Sync>(
     ensures left { IfSome result.told (λ told. TellPart hierarchy.now
         (instance_under accepted.now.layout accepted.now.assigned accepted.now.trace)
         settings.now.pace.workers settings.now.pace.tick
-        (string_bytes told.measured) (string_bytes told.text) told.drift) }
+        told.measured.items (string_bytes told.text) told.drift) }
     ensures wanted { IfSome result.told (λ _. settings.now.partial ≡ true) }
 {
     let Halted { why, turns } = halted;
@@ -202,18 +206,16 @@ fn broken_of<R: Threads + Sync>(
     }
     let run = StoppedRun {
         hierarchy,
+        bytes: trace,
         whole: accepted,
         turns: turns.as_slice(),
         workers: settings.pace.workers,
         tick: settings.pace.tick,
     };
-    let left = record_left(rt, alloc, &run, trace);
+    let left = record_left(rt, alloc, &run);
     drop(turns);
     match left {
-        Ok(told) => Broken {
-            error,
-            told: Some(told),
-        },
+        Ok(told) => Broken { error, told },
         Err(_) => untold(error),
     }
 }

@@ -4,7 +4,7 @@ use Rattle.waff_inputs.specs.Inputs.{Refuses, instance_under}
 use Rattle.waff_tool.specs.Ranks.{file_at}
 use Rattle.waff_answer.specs.Answers.{bytes_of, first, second}
 use Rattle.waff_answer.specs.Runs.{IsPartText, IsRunText, RefusesRun}
-use Rattle.waff_answer.proofs.Running.{assigned_under, refuses_run, some_weaker}
+use Rattle.waff_answer.proofs.Running.{assigned_under, refuses_run, some_weaker, spelled_under}
 use Rattle.waff_answer.proofs.runs.ran.Goals as goal
 
 pub returns-in-Ok : goal.returns-in-Ok
@@ -23,7 +23,7 @@ returns-in-Ok g c =
           (record {
             instance = instance;
             accepts = is;
-            measured = string_bytes ran.told.measured;
+            measured = ran.told.measured.items;
             texts = texts;
           })))
           c.ran_on_files-ran.ensures.told;
@@ -39,7 +39,7 @@ returns-in-Ok g c =
           (record {
             instance = instance;
             accepts = is;
-            measured = string_bytes left.told.measured;
+            measured = left.told.measured.items;
             texts = texts;
           }))))
           c.ran_on_files-ran.ensures.left;
@@ -50,4 +50,10 @@ pub ran_on_files-ran-requires-clause-assigned : goal.ran_on_files-ran-requires-c
 ran_on_files-ran-requires-clause-assigned g c κs within =
     let accepted = c.in-Ok.accepted in
     assigned_under c.file-hierarchy.result.now c.file-trace.result.now accepted.layout accepted.assigned accepted.trace c.in-Ok.ensures.accepted
+    c.in-Ok.ensures.layout
+
+pub ran_on_files-ran-requires-clause-spelled : goal.ran_on_files-ran-requires-clause-spelled
+ran_on_files-ran-requires-clause-spelled g c κs within =
+    let accepted = c.in-Ok.accepted in
+    spelled_under c.file-hierarchy.result.now c.file-trace.result.now accepted.layout accepted.assigned accepted.trace c.in-Ok.ensures.accepted
     c.in-Ok.ensures.layout

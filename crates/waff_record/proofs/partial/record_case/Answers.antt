@@ -5,7 +5,7 @@ use Rattle.waff_record.proofs.Stopped.{stopped_run, stopped_told}
 use Rattle.waff_record.proofs.partial.record_case.Goals as goal
 
 pub record_of-requires-clause-ran : goal.record_of-requires-clause-ran
-record_of-requires-clause-ran g c κs within =
+record_of-requires-clause-ran c =
     stopped_run c.args.run.now c.args.kept.now c.args.case c.requires.assigned c.requires.reached c.requires.left c.requires.cut c.requires.tree c.len-affinities.ensures.tree
     c.requires.assignment (are_timings c.args.case.trace.now c.len-messages.ensures.trace)
     (λ course is. record {
@@ -17,7 +17,7 @@ record_of-requires-clause-ran g c κs within =
     }) c.args.turns.now c.requires.turns
 
 pub returns : goal.returns
-returns g c =
+returns c =
     IfOk-weaker c.record_of.result _ _
     (λ told texts.
     stopped_told c.args.run.now c.args.kept.now c.args.case c.requires.assigned c.requires.reached c.requires.left c.requires.cut c.requires.tree c.len-affinities.ensures.tree c.requires.assignment
@@ -28,5 +28,5 @@ returns g c =
       there = c.workers_run_one.ensures.there course is;
       after = c.workers_run_one.ensures.after course is;
       once = c.runs_once.ensures.each course is;
-    }) c.args.run.now.hierarchy.now (string_bytes told.measured) (string_bytes told.text) told.drift c.args.turns.now c.requires.turns texts)
+    }) c.args.run.now.hierarchy.now told.measured.items (string_bytes told.text) told.drift c.args.turns.now c.requires.turns texts)
     c.record_of.ensures.texts

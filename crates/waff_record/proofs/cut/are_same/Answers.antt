@@ -1,6 +1,6 @@
 use Rattle.std.proofs.Common.{rules, ◌≡◌, length, arith}
 use Rattle.waff_record.proofs.Alike.{same_all, same_more}
-use Rattle.waff_record.proofs.checked.are_same.Goals as goal
+use Rattle.waff_record.proofs.cut.are_same.Goals as goal
 
 pub loop-at-preserved : goal.loop-at-preserved
 loop-at-preserved c =

@@ -2,7 +2,7 @@ use Rattle.std.proofs.Common.{Bool, true, false, refl, rules}
 use Rattle.std.specs.Bool.{Decides, OnTrue}
 use Rattle.std.proofs.lemmas.Slice.Eq.{slice_eq-Decides}
 use Rattle.waff_model.specs.declared.awaits.Await.{Await}
-use Rattle.waff_record.proofs.checked.are_same_awaited.Goals as goal
+use Rattle.waff_record.proofs.cut.are_same_awaited.Goals as goal
 
 where_true : {P : Type 0} (test : Bool) → Decides test P → OnTrue test P
 where_true true decides = decides.0 refl
