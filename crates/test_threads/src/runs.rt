@@ -13,7 +13,8 @@ use waff_inputs::{accept, accept_over_layout, read_numbered};
 use waff_model::Cell;
 use waff_record::Recorded;
 use waff_run::{
-    Broken, Pace, Places, RunError, Settings, Spot, Store, StoreFault, run_on, silent_hands,
+    Broken, Pace, Places, RunError, RunFiles, Settings, Spot, Store, StoreFault, run_on,
+    silent_hands,
 };
 
 /// Files of 64 bytes each, without a lock that waits: a file that somebody else holds is a fault, since the tree
@@ -93,8 +94,7 @@ four,1,0,x,0,swap s:4 s:0;read s:0-3
 ";
 
 fn settings<'a>(workers: u32) -> Settings<'a>
-    ensures workers { result.pace.workers ≡ workers }
-    ensures tick { 1 ≤ result.pace.tick }
+    requires { IsWorkers workers }
 {
     Settings {
         pace: Pace {
@@ -133,28 +133,19 @@ fn ran_by<R: Abort + Threads + Wait + Clock + Eprint + Sync>(
     alloc: Global,
     store: &Memory,
     settings: &Settings<'_>,
-) -> Result<Recorded, Broken>
-    requires workers { IsWorkers settings.now.pace.workers }
-    requires tick { 1 ≤ settings.now.pace.tick }
-{
+) -> Result<Recorded, Broken> {
     let (hierarchy, trace) = (HIERARCHY.as_bytes(), TRACE.as_bytes());
     let layout = read_numbered(alloc, 1, hierarchy).expect(rt, "hierarchy");
     let accepted = accept_over_layout(rt, alloc, layout, trace).expect(rt, "files");
     let places = Places::of(alloc, &accepted.layout, 8).expect(rt, "places");
     let count = accepted.trace.len() as usize;
     let hands = silent_hands(alloc, count).expect(rt, "memory");
-    let ran = run_on(
-        rt,
-        alloc,
-        &accepted,
+    let files = RunFiles {
         hierarchy,
         trace,
-        store,
-        &mut (),
-        hands,
-        &places,
-        settings,
-    );
+        accepted: &accepted,
+    };
+    let ran = run_on(rt, alloc, &files, store, &mut (), hands, &places, settings);
     match ran {
         Ok(ran) => Ok(ran.told),
         Err(broken) => Err(broken),

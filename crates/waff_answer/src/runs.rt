@@ -1,15 +1,11 @@
 //! The messages run on files, and what is told of that.
 ghost use Rattle.std.specs.Prelude.{◌≡◌, ◌≤◌, ℕ, ◌⊎◌, None, Ok, Some, ◌++◌, [], false, true, List, IfErr, IfOk, IfSome, OnOk, string_bytes};
 ghost use Rattle.std.specs.Io.KnownBytes.{Appends, Keeps};
-ghost use Rattle.waff_assign.specs.Lowest.{IsAssignment};
-ghost use Rattle.waff_plan.specs.Bound.{IsWorkers};
-ghost use Rattle.waff_read.specs.Hierarchies.{hierarchy_of};
 ghost use Rattle.waff_io.specs.Writing.{AppendsPart, Tells, WritesOrFails};
-ghost use Rattle.waff_inputs.specs.Inputs.{instance_under};
-ghost use Rattle.waff_inputs.specs.Known.{trace_of};
 ghost use Rattle.waff_inputs.specs.declared.fault.ToolError.TheVariants as tool;
 ghost use Rattle.waff_run.specs.Faults.{IsOfRunning};
-ghost use Rattle.waff_run.specs.Opening.{job_of, told_of};
+ghost use Rattle.waff_run.specs.Opening.{told_of};
+ghost use Rattle.waff_run.specs.RunFiles.{IsAssigned, instance_in, job_in};
 ghost use Rattle.waff_run.specs.Texts.{TellPart, TellRun};
 ghost use Rattle.waff_answer.specs.Answers.{bytes_of, first, second};
 ghost use Rattle.waff_answer.specs.Runs.{EndsRun, IsOfTask, IsPartText, IsRunText, LeavesPart, RefusesRun, drift_message};
@@ -26,11 +22,11 @@ use std::rt::{Clock, Files};
 use std::sync::Wait;
 use std::thread::Threads;
 use waff_cli::{Advice, RunFault, RunTask, advice_on_run};
-use waff_inputs::{Accepted, ToolError, accept_by_threads, fault_status, write_fault, write_text};
+use waff_inputs::{ToolError, accept_by_threads, fault_status, write_fault, write_text};
 use waff_io::{ErrorStream, WriteFault, write_pieces};
 use waff_record::Recorded;
 use waff_run::{
-    Broken, Folder, Opened, Opens, Pace, Part, Places, RanOn, RunError, Settings, Site,
+    Broken, Folder, Opened, Opens, Pace, Part, Places, RanOn, RunError, RunFiles, Settings, Site,
     planned_length, run_on, silent_hands,
 };
 
@@ -362,7 +358,12 @@ fn ran<R: Threads + Wait + Clock + Files + Opens + Eprint + Sync>(
     let (hierarchy, trace) = (file(files, 0), file(files, 1));
     match accept_by_threads(rt, alloc, hierarchy, trace) {
         Ok(accepted) => {
-            let ran = ran_on_files(rt, alloc, task, &accepted, hierarchy, trace);
+            let files = RunFiles {
+                hierarchy,
+                trace,
+                accepted: &accepted,
+            };
+            let ran = ran_on_files(rt, alloc, task, &files);
             drop(accepted);
             ran
         }
@@ -384,40 +385,39 @@ fn ran_on_files<R: Threads + Wait + Clock + Files + Opens + Eprint + Sync>(
     rt: &R,
     alloc: Global,
     task: &RunTask,
-    accepted: &Accepted,
-    hierarchy: &[u8],
-    trace: &[u8],
+    files: &RunFiles<'_>,
 ) -> Result<RanOnFiles, BrokeOff>
-    requires read { hierarchy_of hierarchy.now ≡ Ok accepted.now.layout }
-    requires spelled { trace_of accepted.now.layout.spaces trace.now ≡ Ok accepted.now.trace }
-    requires assigned { IsAssignment accepted.now.layout accepted.now.trace.messages accepted.now.assigned }
-    ensures told { IfOk result (λ ran. TellRun hierarchy.now
-        (instance_under accepted.now.layout accepted.now.assigned accepted.now.trace)
-        task.now.words.workers task.now.words.tick ran.told.measured.items
+    requires assigned { IsAssigned files.now }
+    ensures told { IfOk result (λ ran. TellRun files.now.hierarchy.now
+        (instance_in files.now) task.now.words.workers task.now.words.tick ran.told.measured.items
         (string_bytes ran.told.text) ran.told.drift) }
-    ensures refused { IfErr result (λ broke. IsOfTask accepted.now.layout accepted.now.trace task.now broke.error) }
-    ensures left { IfErr result (λ broke. IfSome broke.left (λ left. TellPart hierarchy.now
-        (instance_under accepted.now.layout accepted.now.assigned accepted.now.trace)
-        task.now.words.workers task.now.words.tick left.told.measured.items
+    ensures refused { IfErr result (λ broke. IsOfTask files.now.accepted.now.layout
+        files.now.accepted.now.trace task.now broke.error) }
+    ensures left { IfErr result (λ broke. IfSome broke.left (λ left. TellPart files.now.hierarchy.now
+        (instance_in files.now) task.now.words.workers task.now.words.tick left.told.measured.items
         (string_bytes left.told.text) left.told.drift)) }
     ensures wanted { IfErr result (λ broke. IfSome broke.left (λ _. task.now.words.partial ≡ true)) }
 {
     let words = &task.words;
-    let places = match Places::of(alloc, &accepted.layout, words.cell) {
+    let places = match Places::of(alloc, &files.accepted.layout, words.cell) {
         Ok(places) => places,
         Err(_) => return Err(broke_of(RunError::Tool(ToolError::Memory))),
     };
     let site = site_of(task);
-    let opened = rt.open_run(alloc, &site, &accepted.layout, &accepted.trace, &places);
+    let opened = rt.open_run(
+        alloc,
+        &site,
+        &files.accepted.layout,
+        &files.accepted.trace,
+        &places,
+    );
     let Opened { store, part, found } = match opened {
         Ok(opened) => opened,
         Err(error) => return Err(broke_of(error)),
     };
     drop(found);
     let settings = settings_of(task);
-    let ran = ran_on_store(
-        rt, alloc, accepted, hierarchy, trace, &store, &places, &settings,
-    );
+    let ran = ran_on_store(rt, alloc, files, &store, &places, &settings);
     drop(store);
     match ran {
         Ok(told) => Ok(RanOnFiles { told, part }),
@@ -440,49 +440,30 @@ fn ran_on_files<R: Threads + Wait + Clock + Files + Opens + Eprint + Sync>(
 fn ran_on_store<R: Threads + Wait + Clock + Eprint + Sync>(
     rt: &R,
     alloc: Global,
-    accepted: &Accepted,
-    hierarchy: &[u8],
-    trace: &[u8],
+    files: &RunFiles<'_>,
     store: &Folder,
     places: &Places,
     settings: &Settings<'_>,
 ) -> Result<Recorded, Broken>
-    requires workers { IsWorkers settings.now.pace.workers }
-    requires tick { 1 ≤ settings.now.pace.tick }
-    requires read { hierarchy_of hierarchy.now ≡ Ok accepted.now.layout }
-    requires spelled { trace_of accepted.now.layout.spaces trace.now ≡ Ok accepted.now.trace }
-    requires assigned { IsAssignment accepted.now.layout accepted.now.trace.messages accepted.now.assigned }
-    ensures told { IfOk result (λ told. TellRun hierarchy.now
-        (instance_under accepted.now.layout accepted.now.assigned accepted.now.trace)
-        settings.now.pace.workers settings.now.pace.tick told.measured.items
+    requires assigned { IsAssigned files.now }
+    ensures told { IfOk result (λ told. TellRun files.now.hierarchy.now
+        (instance_in files.now) settings.now.pace.workers settings.now.pace.tick told.measured.items
         (string_bytes told.text) told.drift) }
     ensures refused { IfErr result (λ broken. IsOfRunning
-        (job_of accepted.now.layout places.now accepted.now.trace) settings.now.pace.workers broken.error) }
-    ensures left { IfErr result (λ broken. IfSome broken.told (λ told. TellPart hierarchy.now
-        (instance_under accepted.now.layout accepted.now.assigned accepted.now.trace)
-        settings.now.pace.workers settings.now.pace.tick
+        (job_in files.now places.now) settings.now.pace.workers broken.error) }
+    ensures left { IfErr result (λ broken. IfSome broken.told (λ told. TellPart files.now.hierarchy.now
+        (instance_in files.now) settings.now.pace.workers settings.now.pace.tick
         told.measured.items (string_bytes told.text) told.drift)) }
     ensures wanted { IfErr result (λ broken. IfSome broken.told (λ _. settings.now.partial ≡ true)) }
 {
-    let hands = match silent_hands(alloc, accepted.trace.len() as usize) {
+    let hands = match silent_hands(alloc, files.accepted.trace.len() as usize) {
         Ok(hands) => hands,
         Err(_) => return Err(Broken {
             error: RunError::Tool(ToolError::Memory),
             told: None,
         }),
     };
-    let ran = run_on(
-        rt,
-        alloc,
-        accepted,
-        hierarchy,
-        trace,
-        store,
-        &mut (),
-        hands,
-        places,
-        settings,
-    );
+    let ran = run_on(rt, alloc, files, store, &mut (), hands, places, settings);
     match ran {
         Ok(RanOn { told, hands }) => {
             drop(hands);
@@ -507,9 +488,7 @@ fn site_of<'a>(task: &'a RunTask) -> Site<'a>
 /// How the messages are run.
 fn settings_of<'a>(task: &'a RunTask) -> Settings<'a>
     ensures workers { result.pace.workers ≡ task.now.words.workers }
-    ensures within { IsWorkers result.pace.workers }
     ensures tick { result.pace.tick ≡ task.now.words.tick }
-    ensures lasting { 1 ≤ result.pace.tick }
     ensures partial { result.partial ≡ task.now.words.partial }
 {
     let words = &task.words;
@@ -549,7 +528,7 @@ fn how_it_went<R: Threads + Sync>(rt: &R, alloc: Global, task: &RunTask, ran: &R
     }
     let hierarchy = file(task.files.as_slice(), 0);
     let measured = ran.measured.as_slice();
-    let workers = task.words.workers.number();
+    let workers = task.words.workers;
     let Ok(planned) = planned_length(rt, alloc, hierarchy, measured, workers) else {
         return Advice::Nothing;
     };

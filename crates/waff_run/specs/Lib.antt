@@ -8,5 +8,6 @@ pub mod Syncing
 pub mod Calls
 pub mod Same
 pub mod Opening
+pub mod RunFiles
 pub mod Asked
 pub mod Hands

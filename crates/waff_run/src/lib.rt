@@ -2,7 +2,7 @@
 //!
 //! The cells lie in files of a folder; threads do the operations of messages, each when the line of the run
 //! lets it begin. What they noted is a plan that obeys, whoever ran when. It is told by `waff_record`.
-//! - `running`: a run, from the accepted files to the two texts; `fault`: why there are none.
+//! - `running`: a run, from the accepted files (`run_files`) to the two texts; `fault`: why there are none.
 //! - `workers`: the threads, over one lock round the line; `locked`: what is behind the lock; `shared`: what they share, and
 //!   how they look, sleep and wake; `threads`: where they wait until all are there; `pace`: how many they are; `going`: the
 //!   line, whose type says of which run it is, and the tokens of its messages.
@@ -43,6 +43,7 @@ mod pace;
 mod part;
 mod perform;
 mod places;
+mod run_files;
 mod running;
 mod same;
 mod shared;
@@ -57,6 +58,7 @@ pub use opening::{Entry, How, Opened, Opens, Site};
 pub use pace::Pace;
 pub use part::Part;
 pub use places::{Places, Spot};
+pub use run_files::RunFiles;
 pub use running::{Broken, RanOn, Settings, planned_length, run_on};
 pub use same::Identity;
 pub use store::{Folder, Store, StoreFault, silent_hands};

@@ -1,5 +1,8 @@
 //! How a run is run.
 
+ghost use Rattle.std.specs.Prelude.{◌≤◌};
+ghost use Rattle.waff_plan.specs.Bound.{IsWorkers};
+
 /// How many workers a run has, and how long a tick of its trace is.
 #[derive(Clone, Copy)]
 pub struct Pace {
@@ -9,4 +12,6 @@ pub struct Pace {
     pub tick: u32,
     /// Whether progress is told.
     pub loud: bool,
+    pub ghost staffed: { IsWorkers workers },
+    pub ghost lasting: { 1 ≤ tick },
 }

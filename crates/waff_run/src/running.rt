@@ -1,18 +1,15 @@
 //! A run, from the accepted files to the two texts.
 
 ghost use Rattle.std.specs.Prelude.{◌≡◌, ◌≤◌, IfErr, IfOk, IfSome, None, Ok, OnOk, true, length, map, option_map, string_bytes};
-ghost use Rattle.waff_assign.specs.Lowest.{IsAssignment};
 ghost use Rattle.waff_inputs.specs.Inputs.{instance_under};
-ghost use Rattle.waff_inputs.specs.Known.{trace_of};
 ghost use Rattle.waff_line.specs.Turns.{AreReached, AreRunTurns, course_by};
-ghost use Rattle.waff_plan.specs.Bound.{IsWorkers};
-ghost use Rattle.waff_read.specs.Hierarchies.{hierarchy_of};
 ghost use Rattle.waff_run.specs.Asked.{AsksFilling, GoesOn};
 ghost use Rattle.waff_run.specs.Faults.{IsOfRunning};
 ghost use Rattle.waff_run.specs.Files.{NamesFile};
 ghost use Rattle.waff_run.specs.Hands.{AreAsked, AreFresh};
 ghost use Rattle.waff_run.specs.Named.{cells_named};
 ghost use Rattle.waff_run.specs.Opening.{job_of};
+ghost use Rattle.waff_run.specs.RunFiles.{IsAssigned, instance_in, job_in};
 ghost use Rattle.waff_run.specs.Texts.{TellPart, TellRun, asking_by, is_named, syncs_by};
 
 use crate::calls::longest_call;
@@ -20,6 +17,7 @@ use crate::fault::{RunError, Stopped};
 use crate::pace::Pace;
 use crate::perform::fill;
 use crate::places::Places;
+use crate::run_files::RunFiles;
 use crate::spots::ends;
 use crate::store::{Store, file_name};
 use crate::syncing::Syncs;
@@ -32,6 +30,7 @@ use std::thread::Threads;
 use waff_inputs::{Accepted, ToolError, accept_by_threads};
 use waff_list::{Rule, list_plan_of};
 use waff_model::{Message, Trace};
+use waff_plan::Workers;
 use waff_record::{Recorded, RunTurns, StoppedRun, record_left, record_of};
 
 /// How a run is run.
@@ -62,53 +61,43 @@ pub struct Broken {
     pub told: Option<Recorded>,
 }
 
-/// Runs the messages of the trace, which these bytes are, on the store. `hands` has one for each message, by which it asks;
+/// Runs the messages of the trace on the store. `hands` has one for each message, by which it asks;
 /// by `hand` the cells are filled.
 pub fn run_on<R: Threads + Wait + Clock + Eprint + Sync, S: Store + Sync>(
     rt: &R,
     alloc: Global,
-    accepted: &Accepted,
-    hierarchy: &[u8],
-    trace: &[u8],
+    files: &RunFiles<'_>,
     store: &S,
     hand: &mut S::Hand,
     hands: Vec<Option<S::Hand>>,
     places: &Places,
     settings: &Settings<'_>,
 ) -> Result<RanOn<S::Hand>, Broken>
-    requires workers { IsWorkers settings.now.pace.workers }
-    requires tick { 1 ≤ settings.now.pace.tick }
-    requires read { hierarchy_of hierarchy.now ≡ Ok accepted.now.layout }
-    requires spelled { trace_of accepted.now.layout.spaces trace.now ≡ Ok accepted.now.trace }
-    requires assigned { IsAssignment accepted.now.layout accepted.now.trace.messages accepted.now.assigned }
-    requires fresh { AreFresh (length accepted.now.trace.messages)
+    requires assigned { IsAssigned files.now }
+    requires fresh { AreFresh (length files.now.accepted.now.trace.messages)
         (map (option_map S.log) hands.items) }
-    ensures told { IfOk result (λ ran. TellRun hierarchy.now
-        (instance_under accepted.now.layout accepted.now.assigned accepted.now.trace)
-        settings.now.pace.workers settings.now.pace.tick ran.told.measured.items
+    ensures told { IfOk result (λ ran. TellRun files.now.hierarchy.now
+        (instance_in files.now) settings.now.pace.workers settings.now.pace.tick ran.told.measured.items
         (string_bytes ran.told.text) ran.told.drift) }
-    ensures asked { IfOk result (λ ran. AreAsked (asking_by places.now accepted.now.trace settings.now)
+    ensures asked { IfOk result (λ ran. AreAsked (asking_by places.now files.now.accepted.now.trace settings.now)
         (map (option_map S.log) ran.hands.items)) }
     ensures filled { OnOk result (GoesOn (S.log hand.old) (S.log hand.new)
-        (AsksFilling places.now settings.now.fill (cells_named accepted.now.trace.messages))) }
+        (AsksFilling places.now settings.now.fill (cells_named files.now.accepted.now.trace.messages))) }
     ensures refused { IfErr result (λ broken. IsOfRunning
-        (job_of accepted.now.layout places.now accepted.now.trace) settings.now.pace.workers broken.error) }
-    ensures left { IfErr result (λ broken. IfSome broken.told (λ told. TellPart hierarchy.now
-        (instance_under accepted.now.layout accepted.now.assigned accepted.now.trace)
-        settings.now.pace.workers settings.now.pace.tick
+        (job_in files.now places.now) settings.now.pace.workers broken.error) }
+    ensures left { IfErr result (λ broken. IfSome broken.told (λ told. TellPart files.now.hierarchy.now
+        (instance_in files.now) settings.now.pace.workers settings.now.pace.tick
         told.measured.items (string_bytes told.text) told.drift)) }
     ensures wanted { IfErr result (λ broken. IfSome broken.told (λ _. settings.now.partial ≡ true)) }
 {
-    let filled = fill_all(alloc, accepted, store, hand, places, settings);
+    let filled = fill_all(alloc, files.accepted, store, hand, places, settings);
     if let Err(error) = filled {
         drop(hands);
         return Err(untold(error));
     }
-    match ran_on(rt, alloc, accepted, store, hands, places, settings) {
-        Ok(ran) => told_on(alloc, accepted, hierarchy, trace, ran, places, settings),
-        Err(halted) => Err(broken_of(
-            rt, alloc, accepted, hierarchy, trace, halted, places, settings,
-        )),
+    match ran_on(rt, alloc, files.accepted, store, hands, places, settings) {
+        Ok(ran) => told_on(alloc, files, ran, places, settings),
+        Err(halted) => Err(broken_of(rt, alloc, files, halted, places, settings)),
     }
 }
 
@@ -123,35 +112,28 @@ fn untold(error: RunError) -> Broken
 /// What is told of a run that came to its end.
 fn told_on<H: Drop>(
     alloc: Global,
-    accepted: &Accepted,
-    hierarchy: &[u8],
-    trace: &[u8],
+    files: &RunFiles<'_>,
     ran: Ran<H>,
     places: &Places,
     settings: &Settings<'_>,
 ) -> Result<RanOn<H>, Broken>
-    requires workers { IsWorkers settings.now.pace.workers }
-    requires tick { 1 ≤ settings.now.pace.tick }
-    requires read { hierarchy_of hierarchy.now ≡ Ok accepted.now.layout }
-    requires spelled { trace_of accepted.now.layout.spaces trace.now ≡ Ok accepted.now.trace }
-    requires assigned { IsAssignment accepted.now.layout accepted.now.trace.messages accepted.now.assigned }
-    requires ran { AreRunTurns (course_by (instance_under accepted.now.layout
-        accepted.now.assigned accepted.now.trace) settings.now.pace.workers settings.now.pace.tick) ran.turns.items }
-    ensures told { IfOk result (λ on. TellRun hierarchy.now
-        (instance_under accepted.now.layout accepted.now.assigned accepted.now.trace)
-        settings.now.pace.workers settings.now.pace.tick on.told.measured.items
+    requires assigned { IsAssigned files.now }
+    requires ran { AreRunTurns (course_by (instance_in files.now)
+        settings.now.pace.workers settings.now.pace.tick) ran.turns.items }
+    ensures told { IfOk result (λ on. TellRun files.now.hierarchy.now
+        (instance_in files.now) settings.now.pace.workers settings.now.pace.tick on.told.measured.items
         (string_bytes on.told.text) on.told.drift) }
     ensures hands { IfOk result (λ on. on.hands ≡ ran.hands) }
     ensures refused { IfErr result (λ broken. IsOfRunning
-        (job_of accepted.now.layout places.now accepted.now.trace) settings.now.pace.workers broken.error) }
+        (job_in files.now places.now) settings.now.pace.workers broken.error) }
     ensures nothing { IfErr result (λ broken. broken.told ≡ None) }
 {
     let Ran { turns, hands } = ran;
     let run = RunTurns {
-        hierarchy,
-        layout: &accepted.layout,
-        case: accepted.case(),
-        bytes: trace,
+        hierarchy: files.hierarchy,
+        layout: &files.accepted.layout,
+        case: files.accepted.case(),
+        bytes: files.trace,
         turns: turns.as_slice(),
         workers: settings.pace.workers,
         tick: settings.pace.tick,
@@ -164,7 +146,7 @@ fn told_on<H: Drop>(
             drop(hands);
             let workers = settings.pace.workers;
             let why = Stopped::from(error);
-            Err(untold(fault_of(alloc, accepted, places, workers, why)))
+            Err(untold(fault_of(alloc, files.accepted, places, workers, why)))
         }
     }
 }
@@ -173,30 +155,23 @@ fn told_on<H: Drop>(
 fn broken_of<R: Threads + Sync>(
     rt: &R,
     alloc: Global,
-    accepted: &Accepted,
-    hierarchy: &[u8],
-    trace: &[u8],
+    files: &RunFiles<'_>,
     halted: Halted,
     places: &Places,
     settings: &Settings<'_>,
 ) -> Broken
-    requires workers { IsWorkers settings.now.pace.workers }
-    requires tick { 1 ≤ settings.now.pace.tick }
-    requires read { hierarchy_of hierarchy.now ≡ Ok accepted.now.layout }
-    requires spelled { trace_of accepted.now.layout.spaces trace.now ≡ Ok accepted.now.trace }
-    requires assigned { IsAssignment accepted.now.layout accepted.now.trace.messages accepted.now.assigned }
-    requires reached { IfSome halted.turns (λ turns. AreReached (course_by (instance_under accepted.now.layout
-        accepted.now.assigned accepted.now.trace) settings.now.pace.workers settings.now.pace.tick) turns.items) }
+    requires assigned { IsAssigned files.now }
+    requires reached { IfSome halted.turns (λ turns. AreReached (course_by (instance_in files.now)
+        settings.now.pace.workers settings.now.pace.tick) turns.items) }
     ensures refused { IsOfRunning
-        (job_of accepted.now.layout places.now accepted.now.trace) settings.now.pace.workers result.error }
-    ensures left { IfSome result.told (λ told. TellPart hierarchy.now
-        (instance_under accepted.now.layout accepted.now.assigned accepted.now.trace)
-        settings.now.pace.workers settings.now.pace.tick
+        (job_in files.now places.now) settings.now.pace.workers result.error }
+    ensures left { IfSome result.told (λ told. TellPart files.now.hierarchy.now
+        (instance_in files.now) settings.now.pace.workers settings.now.pace.tick
         told.measured.items (string_bytes told.text) told.drift) }
     ensures wanted { IfSome result.told (λ _. settings.now.partial ≡ true) }
 {
     let Halted { why, turns } = halted;
-    let error = fault_of(alloc, accepted, places, settings.pace.workers, why);
+    let error = fault_of(alloc, files.accepted, places, settings.pace.workers, why);
     let Some(turns) = turns else {
         return untold(error);
     };
@@ -205,9 +180,9 @@ fn broken_of<R: Threads + Sync>(
         return untold(error);
     }
     let run = StoppedRun {
-        hierarchy,
-        bytes: trace,
-        whole: accepted,
+        hierarchy: files.hierarchy,
+        bytes: files.trace,
+        whole: files.accepted,
         turns: turns.as_slice(),
         workers: settings.pace.workers,
         tick: settings.pace.tick,
@@ -230,7 +205,6 @@ fn ran_on<R: Threads + Wait + Clock + Eprint + Sync, S: Store + Sync>(
     places: &Places,
     settings: &Settings<'_>,
 ) -> Result<Ran<S::Hand>, Halted>
-    requires workers { IsWorkers settings.now.pace.workers }
     requires fresh { AreFresh (length accepted.now.trace.messages)
         (map (option_map S.log) hands.items) }
     ensures ran { IfOk result (λ ran. AreRunTurns (course_by (instance_under accepted.now.layout
@@ -374,12 +348,10 @@ pub fn planned_length<R: Threads + Sync>(
     alloc: Global,
     hierarchy: &[u8],
     measured: &[u8],
-    workers: u32,
-) -> Result<u64, ToolError>
-    requires workers { IsWorkers workers }
-{
+    workers: Workers,
+) -> Result<u64, ToolError> {
     let accepted = accept_by_threads(rt, alloc, hierarchy, measured)?;
-    let made = list_plan_of(alloc, accepted.case(), Rule::Arrival, workers)?;
+    let made = list_plan_of(alloc, accepted.case(), Rule::Arrival, workers.number())?;
     let length = made.plan().length();
     drop(made);
     drop(accepted);

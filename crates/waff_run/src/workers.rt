@@ -7,7 +7,6 @@ ghost use Rattle.waff_assign.specs.Case.{instance_of};
 ghost use Rattle.waff_line.specs.Laws.{AreAllEnded};
 ghost use Rattle.waff_line.specs.Machine.{IsCourse};
 ghost use Rattle.waff_line.specs.Turns.{AreReached, AreRunTurns, course_by};
-ghost use Rattle.waff_plan.specs.Bound.{IsWorkers};
 ghost use Rattle.waff_run.specs.Hands.{AreAsked, AreFresh, asking_of};
 
 use crate::fault::Stopped;
@@ -58,7 +57,6 @@ pub fn run<R: Threads + Wait + Clock + Eprint + Sync, S: Store + Sync>(
     longest: usize,
     pace: Pace,
 ) -> Result<Ran<S::Hand>, Halted>
-    requires workers { IsWorkers pace.workers }
     requires fresh { AreFresh (length case.trace.now.messages) (map (option_map S.log) hands.items) }
     ensures ran { IfOk result (λ ran.
         AreRunTurns (course_by (instance_of case.entry) pace.workers pace.tick) ran.turns.items) }
@@ -83,7 +81,6 @@ fn run_at<C: RunOf + Send + Sync, R: Threads + Wait + Clock + Eprint + Sync, S: 
     longest: usize,
     pace: Pace,
 ) -> Result<Ran<S::Hand>, Halted>
-    requires workers { IsWorkers pace.workers }
     requires fresh { AreFresh (length case.trace.now.messages) (map (option_map S.log) hands.items) }
     requires course { course_by (instance_of case) pace.workers pace.tick ≡ C.course }
     requires asking { asking_of places.now case.trace.now.messages syncs.now ≡ C.asking }

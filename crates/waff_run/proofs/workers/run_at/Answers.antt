@@ -9,4 +9,4 @@ pub ended-requires-after_bounds : goal.ended-requires-after_bounds
 ended-requires-after_bounds g c κs within =
     subst (λ (course : Course). IsCourse course) c.requires.course
     (is_course_by (instance_of c.args.case) c.args.pace.workers c.args.pace.tick (are_timings c.args.case.trace.now c.len-messages.ensures.trace) c.args.case.lengths
-    c.requires.workers.from)
+    c.args.pace.staffed.from)
