@@ -358,12 +358,12 @@ fn ran<R: Threads + Wait + Clock + Files + Opens + Eprint + Sync>(
     let (hierarchy, trace) = (file(files, 0), file(files, 1));
     match accept_by_threads(rt, alloc, hierarchy, trace) {
         Ok(accepted) => {
-            let files = RunFiles {
+            let given = RunFiles {
                 hierarchy,
                 trace,
                 accepted: &accepted,
             };
-            let ran = ran_on_files(rt, alloc, task, &files);
+            let ran = ran_on_files(rt, alloc, task, &given);
             drop(accepted);
             ran
         }

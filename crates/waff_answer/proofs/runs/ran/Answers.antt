@@ -1,8 +1,8 @@
 use Rattle.std.proofs.Common.{◌∙◌, ap, subst, string_bytes}
 use Rattle.std.proofs.lemmas.Result.{IfErr-weaker, IfOk-weaker}
-use Rattle.waff_inputs.specs.Inputs.{Refuses, instance_under}
+use Rattle.waff_inputs.specs.Inputs.{instance_under}
 use Rattle.waff_tool.specs.Ranks.{file_at}
-use Rattle.waff_answer.specs.Answers.{bytes_of, first, second}
+use Rattle.waff_answer.specs.Answers.{bytes_of, second}
 use Rattle.waff_answer.specs.Runs.{IsPartText, IsRunText, RefusesRun}
 use Rattle.waff_answer.proofs.Running.{assigned_under, refuses_run, some_weaker, spelled_under}
 use Rattle.waff_answer.proofs.runs.ran.Goals as goal
@@ -52,8 +52,11 @@ ran_on_files-ran-requires-clause-assigned g c κs within =
     assigned_under c.file-hierarchy.result.now c.file-trace.result.now accepted.layout accepted.assigned accepted.trace c.in-Ok.ensures.accepted
     c.in-Ok.ensures.layout
 
-pub ran_on_files-ran-requires-clause-spelled : goal.ran_on_files-ran-requires-clause-spelled
-ran_on_files-ran-requires-clause-spelled g c κs within =
+pub invariant_of-given : goal.invariant_of-given
+invariant_of-given g c =
     let accepted = c.in-Ok.accepted in
-    spelled_under c.file-hierarchy.result.now c.file-trace.result.now accepted.layout accepted.assigned accepted.trace c.in-Ok.ensures.accepted
-    c.in-Ok.ensures.layout
+    record {
+      read = c.in-Ok.ensures.layout;
+      spelled = spelled_under c.file-hierarchy.result.now c.file-trace.result.now accepted.layout accepted.assigned accepted.trace c.in-Ok.ensures.accepted
+          c.in-Ok.ensures.layout;
+    }
